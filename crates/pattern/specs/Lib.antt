@@ -1,0 +1,9 @@
+pub mod Limits
+pub mod Numbers
+pub mod Operations
+pub mod Expressions
+pub mod Points
+pub mod Files
+pub mod Drafts
+pub mod Patterns
+pub mod Laws
