@@ -1,0 +1,10 @@
+pub mod Limits
+pub mod Meaning
+pub mod Held
+pub mod BitsMeaning
+pub mod Unfilled
+pub mod BitsState
+pub mod PairMeaning
+pub mod Handing
+pub mod Writing
+pub mod Laws
