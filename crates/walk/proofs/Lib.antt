@@ -1,0 +1,17 @@
+pub mod Order
+pub mod Parting
+pub mod Stages
+pub mod Stretches
+pub mod Walking
+pub mod Pieces
+pub mod Sweeps
+pub mod Lists
+pub mod Ends
+pub mod Sharing
+pub mod Fuel
+pub mod Trees
+pub mod Laying
+pub mod Routes
+pub mod Theorems
+pub mod Fixing
+pub mod Worked
