@@ -1,0 +1,4 @@
+// Sets of the points of a pattern.
+pub mod set;
+
+pub use set::PointSet;
