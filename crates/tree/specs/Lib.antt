@@ -1,0 +1,6 @@
+pub mod Limits
+pub mod Records
+pub mod Sound
+pub mod Next
+pub mod Prefixes
+pub mod Held
