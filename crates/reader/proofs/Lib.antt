@@ -1,0 +1,14 @@
+pub mod Basics
+pub mod Spreading
+pub mod Carrying
+pub mod Sweeping
+pub mod Gathering
+pub mod Shifting
+pub mod Reading
+pub mod Answering
+pub mod Exact
+pub mod Starting
+pub mod Ending
+pub mod Out
+pub mod Opening
+pub mod Keeping

@@ -1,0 +1,9 @@
+pub mod Marks
+pub mod Spread
+pub mod State
+pub mod Sweeping
+pub mod Gather
+pub mod Reading
+pub mod Ending
+pub mod Seen
+pub mod Calls
