@@ -108,7 +108,7 @@ const FILLS: [Case; 7] = [
     },
 ];
 
-pub fn run(rt: &LibcRuntime) -> io::Result<()> {
+pub(crate) fn run(rt: &LibcRuntime) -> io::Result<()> {
     order(rt)?;
     let mut sink = Bits::new();
     show::takes(rt, &mut sink, &ENDS)?;

@@ -133,7 +133,7 @@ fn neither(rt: &LibcRuntime, pattern: &Pattern) -> io::Result<()> {
     )
 }
 
-pub fn run(rt: &LibcRuntime) -> io::Result<()> {
+pub(crate) fn run(rt: &LibcRuntime) -> io::Result<()> {
     println!(rt, "A pair of pairs.")?;
     let mut pattern = Pattern::new();
     let _ = pattern.load(&LETTERS);

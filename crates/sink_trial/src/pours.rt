@@ -9,7 +9,7 @@ use std::io;
 // A code of two bytes of bits.
 const CODE: [u32; 11] = [0, 1, 0, 1, 1, 0, 1, 0, 1, 1, END_MARK];
 
-pub fn run(rt: &LibcRuntime) -> io::Result<()> {
+pub(crate) fn run(rt: &LibcRuntime) -> io::Result<()> {
     println!(rt, "A stock of two bytes.")?;
     let mut sink = Bits::new();
     let handed = hand_over(&mut sink, &CODE);

@@ -13,7 +13,7 @@ pub struct Case {
 }
 
 // One item, once.
-pub fn once(label: &'static str, item: u32) -> Case {
+pub(crate) fn once(label: &'static str, item: u32) -> Case {
     Case {
         label,
         item,
@@ -22,7 +22,7 @@ pub fn once(label: &'static str, item: u32) -> Case {
 }
 
 // Takes an item some times over, up to the first refusal.
-pub fn repeat<S: Sink>(sink: &mut S, item: u32, times: u32) -> Result<(), Fault> {
+pub(crate) fn repeat<S: Sink>(sink: &mut S, item: u32, times: u32) -> Result<(), Fault> {
     for _ in 0..times {
         sink.take(item)?;
     }
@@ -30,7 +30,7 @@ pub fn repeat<S: Sink>(sink: &mut S, item: u32, times: u32) -> Result<(), Fault>
 }
 
 // Whether the items were taken, or why not.
-pub fn answer(rt: &LibcRuntime, label: &str, answer: Result<(), Fault>) -> io::Result<()> {
+pub(crate) fn answer(rt: &LibcRuntime, label: &str, answer: Result<(), Fault>) -> io::Result<()> {
     match answer {
         Ok(()) => println!(rt, "{label}: taken"),
         Err(fault) => println!(rt, "{label}: {fault}"),
@@ -38,7 +38,7 @@ pub fn answer(rt: &LibcRuntime, label: &str, answer: Result<(), Fault>) -> io::R
 }
 
 // Takes the items of each case.
-pub fn takes<S: Sink>(rt: &LibcRuntime, sink: &mut S, cases: &[Case]) -> io::Result<()> {
+pub(crate) fn takes<S: Sink>(rt: &LibcRuntime, sink: &mut S, cases: &[Case]) -> io::Result<()> {
     for case in cases {
         answer(rt, case.label, repeat(sink, case.item, case.times))?;
     }
@@ -46,7 +46,7 @@ pub fn takes<S: Sink>(rt: &LibcRuntime, sink: &mut S, cases: &[Case]) -> io::Res
 }
 
 // Bytes in hexadecimal digits.
-pub fn bytes(rt: &LibcRuntime, bytes: &[u8]) -> io::Result<()> {
+pub(crate) fn bytes(rt: &LibcRuntime, bytes: &[u8]) -> io::Result<()> {
     for byte in bytes {
         let b = *byte;
         print!(rt, " {b:02x}")?;
@@ -55,7 +55,7 @@ pub fn bytes(rt: &LibcRuntime, bytes: &[u8]) -> io::Result<()> {
 }
 
 // How many bytes were written to a buffer, or why none; and a part of the buffer.
-pub fn written(
+pub(crate) fn written(
     rt: &LibcRuntime,
     label: &str,
     answer: Result<usize, Fault>,
@@ -69,7 +69,7 @@ pub fn written(
 }
 
 // Pours a channel into a buffer, and prints the answer and all of the buffer.
-pub fn pour<S: Sink>(
+pub(crate) fn pour<S: Sink>(
     rt: &LibcRuntime,
     label: &str,
     sink: &mut S,

@@ -9,7 +9,7 @@ fn add(rt: &LibcRuntime, label: &str, stock: &mut Stock, more: &[u8]) -> io::Res
     println!(rt, "{label}: {fits}, {len}")
 }
 
-pub fn run(rt: &LibcRuntime) -> io::Result<()> {
+pub(crate) fn run(rt: &LibcRuntime) -> io::Result<()> {
     println!(rt, "A stock holds 4,096 bytes.")?;
     let mut stock = Stock::new();
     add(rt, "4,095 bytes", &mut stock, &[9; 4095])?;

@@ -128,7 +128,7 @@ const REST: [Case; 4] = [
     },
 ];
 
-pub fn run(rt: &LibcRuntime) -> io::Result<()> {
+pub(crate) fn run(rt: &LibcRuntime) -> io::Result<()> {
     println!(rt, "Numbers in groups of seven bits.")?;
     numbers(
         rt,

@@ -34,7 +34,7 @@ fn read(tree: &mut PathTree, side: Side) -> Result<Side, Refusal> {
 }
 
 // What the tree of 'a star b or a star c' counts after that many letters a; 0 if its paths began alike.
-pub fn grow(letters: u32) -> Result<usize, Refusal> {
+pub(crate) fn grow(letters: u32) -> Result<usize, Refusal> {
     let mut tree = PathTree::new();
     let one = tree.add(FIRST_SLOT, FIRST)?;
     let mut left = star(&mut tree, one)?;
@@ -52,7 +52,7 @@ pub fn grow(letters: u32) -> Result<usize, Refusal> {
 }
 
 // What a path of as many items as there is room for counts, and what adding one more answers.
-pub fn fill() -> Result<(usize, Result<u16, Refusal>), Refusal> {
+pub(crate) fn fill() -> Result<(usize, Result<u16, Refusal>), Refusal> {
     let mut tree = PathTree::new();
     let mut at = FIRST_SLOT;
     for _ in 0..CAPACITY {

@@ -10,7 +10,7 @@ pub struct Kept {
 }
 
 // The path that `slot` holds.
-pub fn path_of(kept: &Vec<Kept>, slot: u16) -> Option<&Vec<u32>> {
+pub(crate) fn path_of(kept: &Vec<Kept>, slot: u16) -> Option<&Vec<u32>> {
     for k in kept {
         if k.slot == slot {
             return Some(&k.path);
@@ -35,7 +35,7 @@ fn after(heap: Global, kept: &Vec<Kept>, path: &[u32]) -> Result<Vec<u32>, Alloc
 }
 
 // Why `item` may not be added under `slot`, if it may not. There is always room here.
-pub fn bar(
+pub(crate) fn bar(
     heap: Global,
     kept: &Vec<Kept>,
     slot: u16,
@@ -70,7 +70,7 @@ fn alike(a: &Vec<u32>, b: &Vec<u32>, n: usize) -> bool {
 }
 
 // How many different non-empty beginnings the paths have.
-pub fn beginnings(kept: &Vec<Kept>) -> usize {
+pub(crate) fn beginnings(kept: &Vec<Kept>) -> usize {
     let mut count: usize = 0;
     for (i, k) in kept.iter().enumerate() {
         for n in 1..k.path.len().saturating_add(1) {
@@ -87,7 +87,7 @@ pub fn beginnings(kept: &Vec<Kept>) -> usize {
 }
 
 // The item with which all paths begin.
-pub fn shared(kept: &Vec<Kept>) -> Option<u32> {
+pub(crate) fn shared(kept: &Vec<Kept>) -> Option<u32> {
     let first = kept.first()?;
     let x = *first.path.first()?;
     for k in kept {
@@ -99,7 +99,7 @@ pub fn shared(kept: &Vec<Kept>) -> Option<u32> {
 }
 
 // Takes the first item off every path.
-pub fn shorten(kept: &mut Vec<Kept>) {
+pub(crate) fn shorten(kept: &mut Vec<Kept>) {
     for k in kept.iter_mut() {
         if !k.path.is_empty() {
             k.path.remove(0);
@@ -108,7 +108,7 @@ pub fn shorten(kept: &mut Vec<Kept>) {
 }
 
 // Lets the holder go; whether there was one.
-pub fn drop_holder(kept: &mut Vec<Kept>, slot: u16) -> bool {
+pub(crate) fn drop_holder(kept: &mut Vec<Kept>, slot: u16) -> bool {
     for i in 0..kept.len() {
         if kept[i].slot == slot {
             kept.swap_remove(i);

@@ -170,7 +170,7 @@ impl Trial {
 }
 
 // Calls the tree `turns` times, with arguments that look random.
-pub fn run(heap: Global, turns: u32) -> Result<Tally, AllocError> {
+pub(crate) fn run(heap: Global, turns: u32) -> Result<Tally, AllocError> {
     let tally = Tally {
         added: 0,
         not_held: 0,
