@@ -1,4 +1,6 @@
 // Refusals: why a call was refused, which layer refused it, and at which place.
+#![tactic(auto)]
+
 pub mod cause;
 pub mod layer;
 pub mod refusal;

@@ -8,6 +8,8 @@
 //     mulzopas read PATTERN plain|numbered INPUT ROWS BITS
 //                              reads the input, - for standard input, as it arrives; writes rows and bits, - prints them
 //     mulzopas batch FILE      runs each line of the file as a command
+#![tactic(auto)]
+
 use anyhow::anyhow;
 use std::{env, fs};
 

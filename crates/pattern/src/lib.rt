@@ -1,4 +1,6 @@
 // Patterns: expressions with output as tables of points, and the reader of pattern files.
+#![tactic(auto)]
+
 pub mod laws;
 pub mod limits;
 pub mod number;

@@ -3,6 +3,8 @@
 // A line is: what is expected, `=`, and the file's bytes.
 // Expected is `ok POINTS ENTRY TEXT`, or `NUMBER PLACE` of a refusal.
 // Bytes are pairs of hexadecimal digits; `N(`, some bytes and `)` stand for those bytes N times.
+#![tactic(auto)]
+
 use anyhow::anyhow;
 use pattern::Pattern;
 use std::alloc::{AllocError, Global};

@@ -1,4 +1,6 @@
 // Sets of the points of a pattern.
+#![tactic(auto)]
+
 pub mod set;
 
 pub use set::PointSet;

@@ -1,4 +1,6 @@
 // The reading core: the live walks of the symbols read so far, in order, their codes in a tree, and what one more symbol makes of them.
+#![tactic(auto)]
+
 pub mod buffer;
 pub mod reader;
 mod state;

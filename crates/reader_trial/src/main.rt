@@ -1,6 +1,8 @@
 // Reads inputs by patterns from standard input, and tells which items came off after which symbol, and how each reading ended.
 //
 // A line is: the bytes of a pattern file in hexadecimal digits, `=`, and the words of the input; `N*` before a word stands for it N times.
+#![tactic(auto)]
+
 use alphabet::Bytes;
 use anyhow::anyhow;
 use pattern::Pattern;

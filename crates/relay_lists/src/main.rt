@@ -14,6 +14,8 @@
 //     mulzopas batch FILE      runs each line of the file as a command
 //
 // An input - is standard input, rows - are standard output; what was done is then told on standard error.
+#![tactic(auto)]
+
 use anyhow::anyhow;
 use std::{env, fs};
 

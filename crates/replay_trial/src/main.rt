@@ -3,6 +3,8 @@
 // A line is: what is expected, `=`, and the sink, the pattern file, the filed bits and the symbols, parted by `|`.
 // Expected is `ok ITEMS`, or `NUMBER PLACE` of a refusal. The sink is `all`, a pair of bits and text, or a number: it takes so many items.
 // Files, bits and symbols are pairs of hexadecimal digits.
+#![tactic(auto)]
+
 use alphabet::{Alphabet, Bytes};
 use anyhow::anyhow;
 use fault::Fault;

@@ -1,4 +1,6 @@
 // Runs: a run reads the symbols of pieces one after another, and hands over to a sink what is certain of their code.
+#![tactic(auto)]
+
 mod book;
 pub mod calls;
 pub mod finished;

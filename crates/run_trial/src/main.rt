@@ -9,6 +9,8 @@
 //   cuts     one piece over bytes: whole, in each cut into two pieces, and symbol by symbol
 // The sink of the last three writes a mark for each item: `<` and `>` for the branches, the symbol for a read, `.` for the end mark. In
 // `few` and `small` it is paired with plain text. A line that begins with `#` is a remark.
+#![tactic(auto)]
+
 use crate::cuts::print_cuts;
 use crate::listing::print_calls;
 use crate::refusals::{Short, print_refusals};

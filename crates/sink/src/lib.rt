@@ -1,4 +1,6 @@
 // Sinks: where the items of a code go, and what is written of them.
+#![tactic(auto)]
+
 ghost use Rattle.std.specs.Prelude.{◌≡◌, length, is_ok, if◌then◌else◌};
 ghost use Rattle.sink.specs.Meaning.{Meaning, Stocks, take_answer, grown, pour_answer, emptied, fronted};
 

@@ -1,4 +1,6 @@
 // Puts sinks through cases whose outcomes were worked out by hand; the file stdout holds those.
+#![tactic(auto)]
+
 use std::io;
 
 mod bits;

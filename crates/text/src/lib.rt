@@ -1,4 +1,6 @@
 // The sink of text: what the items of a code write of a pattern's texts and of the symbols that it keeps.
+#![tactic(auto)]
+
 mod kind;
 pub mod laws;
 mod manner;

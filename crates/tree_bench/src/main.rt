@@ -1,4 +1,6 @@
 // Times the path tree: standard output says what was done, standard error how long it took.
+#![tactic(auto)]
+
 use std::io;
 use std::time::Instant;
 use tree::limits::FIRST_SLOT;

@@ -1,4 +1,6 @@
 // Tries the path tree against plain lists, and grows the tree of a pattern letter by letter.
+#![tactic(auto)]
+
 mod letters;
 mod model;
 mod random;
