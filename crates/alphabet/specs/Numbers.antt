@@ -1,9 +1,9 @@
 -- Tokens and numbers: each number up to the largest is exactly one token's.
 use Rattle.std.specs.Prelude.{◌≡◌, ℕ, ◌+◌, ◌-◌, ◌*◌, ◌/◌, ◌%◌, ◌<◌, ◌≤◌, ℤ, pos, negsuc, ◌≤ℤ◌}
 use mathlib.Core.HLevel.{is_prop→PathP}
+use denote.Struct.Props.{props}
 use Rattle.std.proofs.Common.{inl, inr, ap, arith}
 use Rattle.std.proofs.Math.Bridge.{le_prop}
-use denote.Struct.Props.{≤ℤ_prop}
 use Rattle.std.proofs.lemmas.Int.{ints}
 use Rattle.std.proofs.lemmas.Bool.{cases_lt}
 use Rattle.alphabet.specs.declared.token.Token.{Token}
@@ -28,8 +28,8 @@ same_token t u k v = λ i. record {
   kind = k i;
   value = v i;
   listed = is_prop→PathP (λ j. k j ≤ last_kind) (λ j. le_prop) t.listed u.listed i;
-  lowest = is_prop→PathP (λ j. least_value ≤ℤ v j) (λ j. ≤ℤ_prop) t.lowest u.lowest i;
-  highest = is_prop→PathP (λ j. v j ≤ℤ greatest_value) (λ j. ≤ℤ_prop) t.highest u.highest i;
+  lowest = is_prop→PathP (λ j. least_value ≤ℤ v j) (λ j. hlevel props) t.lowest u.lowest i;
+  highest = is_prop→PathP (λ j. v j ≤ℤ greatest_value) (λ j. hlevel props) t.highest u.highest i;
 }
 
 pub number_within : (t : Token) → token_number t ≤ largest_number

@@ -24,7 +24,7 @@ pub const END_MARK: u32 = LAST_READ + 1;
 
 // The item of a read of a class at a symbol, if the symbol belongs to the class. By the alphabet's law it is at most the last read item.
 pub fn read_item<A: Alphabet>(alphabet: &A, class: u32, symbol: &A::Symbol) -> Option<u32>
-    ensures item { result ≡ read_of (meaning alphabet.now) class symbol.now }
+    ensures item { result ≡ read_of (A.meaning alphabet.now) class symbol.now }
     ensures range { IfSome result (λ i. (first_read ≤ i) × (i ≤ last_read)) }
 {
     if alphabet.belongs(class, symbol) {

@@ -1,7 +1,7 @@
 -- A sound tree has one entry for each non-empty beginning of a held path.
 use Rattle.std.proofs.Common.{◌≡◌, ℕ, zero, suc, ◌+◌, ◌-◌, ◌*◌, ◌^◌, ◌<◌, ◌≤◌, Bool, true, false, cond, eqb, ◌≢◌, ◌⊎◌, List, [], ◌∷◌, ◌++◌, length, get_or, set, sym, refl, ap, ◌∙◌, subst, inl, inr, ⊎_elim, append_assoc, le_of_suc-le-suc, not-suc-le-zero, add-zero, add-suc, arith}
 use mathlib.Core.List.{Memᴰ}
-use Rattle.std.proofs.lemmas.Bool.{cases_eq, cases_Bool, eq-eqb, ne_eqb, eqb_true, eqb-false, both_ways}
+use Rattle.std.proofs.lemmas.Bool.{cases_eq, cases_Bool, eq-eqb, ne_eqb, eqb-true, eqb-false, both_ways}
 use Rattle.std.proofs.lemmas.Bool.Decides.{nat_tests}
 use Rattle.tree.specs.declared.table.Entry.{Entry}
 use Rattle.tree.specs.declared.table.Table.{Table}
@@ -38,7 +38,7 @@ pub some_kid : (j k : ℕ) (es : List Entry) → 0 < total (kid j) k es → (c :
 unfolding total
 some_kid j k [] h = absurd (not-suc-le-zero h)
 some_kid j k (e ∷ es) h =
-    ⊎_elim (λ (b : eqb e.parent j ≡ true). (0, eqb_true e.parent j b))
+    ⊎_elim (λ (b : eqb e.parent j ≡ true). (0, eqb-true e.parent j b))
     (λ (b : eqb e.parent j ≡ false). let h2 = rw b at h in let r = some_kid j (suc k) es (omega (arith, h2)) in (suc r.0, r.1))
     (cases_Bool (eqb e.parent j))
 

@@ -6,7 +6,7 @@ use native.Mathlib.Bridge.{le_prop}
 use mathlib.Core.Logic.{∥∥₁_elim, ∥∥₁_map}
 use mathlib.Core.HLevel.{⊥_prop, Π_prop, ×_prop, Σ_prop_path}
 use mathlib.Core.Bool.{Bool-set}
-use Rattle.std.proofs.lemmas.Bool.{cases_eq, cases_Bool, eq-eqb, eqb_true, both_ways}
+use Rattle.std.proofs.lemmas.Bool.{cases_eq, cases_Bool, eq-eqb, eqb-true, both_ways}
 use Rattle.tree.specs.declared.table.Entry.{Entry}
 use Rattle.tree.specs.declared.table.Table.{Table}
 use Rattle.tree.specs.Records.{at, blank}
@@ -110,7 +110,7 @@ module _ (t : Table) (z : ∥ Sound 0 t ∥₁) where
       go (inr e) = refl
 
   less : (i : ℕ) (u : 0 < par t i) → i ≢ t.root → (n : ℕ) → eqb (rise t n i) t.root ≡ true → (high (par t i) (up_used i u)).0 < n
-  less i u o zero e = absurd (o (eqb_true i t.root e))
+  less i u o zero e = absurd (o (eqb-true i t.root e))
   less i u o (suc n) e = let h = (high (par t i) (up_used i u)).1.1 n e in omega (arith, h)
 
   falls : (i : ℕ) → 0 < par t i → i ≢ t.root → age (par t i) < age i

@@ -1,6 +1,6 @@
 -- Sums over the entries of a table, where one or two entries are written.
 use Rattle.std.proofs.Common.{◌≡◌, ℕ, zero, suc, ◌+◌, ◌-◌, ◌*◌, ◌<◌, ◌≤◌, Bool, true, false, cond, eqb, ◌≢◌, ◌⊎◌, List, [], ◌∷◌, length, get_or, set, sym, refl, ap, ◌∙◌, subst, inl, inr, ⊎_elim, le_of_suc-le-suc, not-suc-le-zero, add-zero, add-suc, suc-add, zero-add, mul-one, mul-add, arith, length-set, get_or-set_other, get_or-set_same}
-use Rattle.std.proofs.lemmas.Bool.{eq-eqb, ne_eqb, eqb_true, eqb-false, cases_Bool}
+use Rattle.std.proofs.lemmas.Bool.{eq-eqb, ne_eqb, eqb-true, eqb-false, cases_Bool}
 use Rattle.tree.specs.declared.table.Entry.{Entry}
 use Rattle.tree.specs.Records.{at, blank}
 use Rattle.tree.specs.Sound.{total, kid, kid_slot, counts_used}
@@ -94,7 +94,7 @@ pub record Lone (j k : ℕ) (es : List Entry) : Type 0 where
 lone_here : (j k : ℕ) (e : Entry) (es : List Entry) → eqb e.parent j ≡ true → total (kid j) (suc k) es ≡ 0 → Lone j k (e ∷ es)
 unfolding total
 lone_here j k e es b n =
-    record { slot = 0; inside = omega arith; child = eqb_true e.parent j b; sum = rw (b, no_slots j (suc k) es n) (omega arith); only = first }
+    record { slot = 0; inside = omega arith; child = eqb-true e.parent j b; sum = rw (b, no_slots j (suc k) es n) (omega arith); only = first }
   where
     first : (l : ℕ) → l < length (e ∷ es) → (at (e ∷ es) l).parent ≡ j → l ≡ 0
     first zero h q = refl

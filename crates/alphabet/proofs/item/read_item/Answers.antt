@@ -10,8 +10,8 @@ bounded g c =
     let h = (g.met.A.Alphabet.lawful c.args.alphabet.now).small c.args.class c.args.symbol.now (sym c.if-belongs.ensures) in
     omega (arith, h, c.number.ensures)
 
-pub overflow-add-result : goal.overflow-add-result
-overflow-add-result g c = let h = bounded g c in search rules
+pub overflow_add-result : goal.overflow_add-result
+overflow_add-result g c = let h = bounded g c in search rules
 
 pub returns-then-belongs : goal.returns-then-belongs
 returns-then-belongs g c = let h = bounded g c in record { item = grind arith; range = (omega arith, omega arith) }

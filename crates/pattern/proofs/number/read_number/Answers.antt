@@ -3,7 +3,7 @@ use Rattle.pattern.specs.declared.number.Number.{Number}
 use Rattle.pattern.specs.Numbers.{Long, under, groups, small, number, found}
 use Rattle.pattern.proofs.Numerals.{groups_none, groups_last, groups_more, small_in, small_out}
 use Rattle.pattern.proofs.number.read_number.Goals as goal
-use Rattle.pattern.proofs.number.read_number.Goals.{then-third-ge-MORE-via-then-third-ge-MORE, then-third-ge-MORE-via-else-third-ge-MORE+then-value-gt-LARGEST-NUMBER}
+use Rattle.pattern.proofs.number.read_number.Goals.{then-third-ge-MORE-via-then-third-ge-MORE, then-third-ge-MORE-via-else-third-ge-MORE+then-value-gt-LARGEST_NUMBER}
 
 -- what is found, from the groups and from the number
 from_groups : (xs : List ℕ) (at : ℕ) (g s : Option Long) (r : Option Number)
@@ -71,7 +71,7 @@ returns-then-third-ge-MORE c =
           (front ∙ ap (λ g. under a (under b g))
           (groups_more xs (at + 2) 0 d (at + 3) c.if-at-file-3.false c.from-third.ensures w.if-third-ge-MORE.true (omega arith)))
           refl refl
-      | then-third-ge-MORE-via-else-third-ge-MORE+then-value-gt-LARGEST-NUMBER w ↦
+      | then-third-ge-MORE-via-else-third-ge-MORE+then-value-gt-LARGEST_NUMBER w ↦
           let r : Long = record { value = a % 128 + 128 * (b % 128 + 128 * d); bytes = 3 } in
           from_groups xs at (Some r) None None
           (front ∙ ap (λ g. under a (under b g))

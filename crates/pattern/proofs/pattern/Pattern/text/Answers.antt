@@ -2,10 +2,10 @@ use Rattle.std.proofs.Common.{sym, ap, ◌∙◌, arith}
 use Rattle.pattern.specs.Patterns.{text_of, own_bytes, bytes_at}
 use Rattle.pattern.proofs.Links.{text_within, bytes_of, no_bytes, none_at, part_of}
 use Rattle.pattern.proofs.pattern.Pattern.text.Goals as goal
-use Rattle.pattern.proofs.pattern.Pattern.text.Goals.{then-at-self+in-default, else-at-self}
+use Rattle.pattern.proofs.pattern.Pattern.text.Goals.{then-at-self+in_default, else-at-self}
 
-pub slice-bounds-result-end : goal.slice-bounds-result-end
-slice-bounds-result-end c =
+pub slice_bounds-result-end : goal.slice_bounds-result-end
+slice_bounds-result-end c =
     let t = text_within c.args.self.now c.args.at _ c.in-Text.start c.in-Text.len c.in-Text.next c.if-at-self.true c.in-Text.is in
     omega (arith, t, c.args.self.now.little)
 
@@ -21,6 +21,6 @@ pub returns : goal.returns
 returns c =
     let p = c.args.self.now in
     elim c.if-at-self.branch [
-      | then-at-self+in-default w ↦ no_bytes (text_of p) _ w.in-default.not-Text ∙ bytes_of p c.args.at _ w.if-at-self.true
+      | then-at-self+in_default w ↦ no_bytes (text_of p) _ w.in_default.not-Text ∙ bytes_of p c.args.at _ w.if-at-self.true
       | else-at-self w ↦ ap (bytes_at (text_of p)) (none_at p c.args.at w.if-at-self.false)
     ]

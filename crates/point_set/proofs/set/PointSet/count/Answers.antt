@@ -8,8 +8,8 @@ pub loop-word-init : goal.loop-word-init
 unfolding flags
 loop-word-init c = (omega arith, refl)
 
-pub overflow-add-n : goal.overflow-add-n
-overflow-add-n c =
+pub overflow_add-n : goal.overflow_add-n
+overflow_add-n c =
     let w : get_or c.args.self.now.words c.loop-word.word-index 0 < 2 ^ 64 = omega arith in
     omega (arith, ones-le 64 _ w, c.loop-word.invariant.0)
 

@@ -11,8 +11,8 @@ add-requires c =
     let S = sound_of c.args.self.now in
     record { sound = S; space = V.some; under = S.shape.holders c.args.under V.held; absent = V.absent; single = V.single }
 
-pub invariant-of-self : goal.invariant-of-self
-invariant-of-self c = (∣ c.add.ensures.sound ∣₁, tt)
+pub invariant_of-self : goal.invariant_of-self
+invariant_of-self c = record { sound = ∣ c.add.ensures.sound ∣₁ }
 
 pub returns-in-Some : goal.returns-in-Some
 returns-in-Some c =

@@ -4,8 +4,8 @@ use Rattle.tree.proofs.paths.PathTree.take_first.Goals as goal
 pub pop-requires : goal.pop-requires
 pop-requires c = record { sound = sound_of c.args.self.now }
 
-pub invariant-of-self : goal.invariant-of-self
-invariant-of-self c = (popped_sound c.args.self.now c.pop.result c.pop.new.self c.pop.ensures, tt)
+pub invariant_of-self : goal.invariant_of-self
+invariant_of-self c = record { sound = popped_sound c.args.self.now c.pop.result c.pop.new.self c.pop.ensures }
 
 pub returns : goal.returns
 returns c = takes c.args.self.now c.pop.result _ c.pop.ensures

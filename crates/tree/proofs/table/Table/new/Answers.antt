@@ -8,5 +8,5 @@ use Rattle.tree.proofs.table.Table.new.Goals as goal
 
 pub returns : goal.returns
 returns c =
-    subst (λ (e : Entry). Fresh (record { entries = set (replicate slot_count blank) first_slot e; spare = c.spares.result; left = capacity; root = first_slot })) (sym c.first-entry.ensures)
+    subst (λ (e : Entry). Fresh (record { entries = set (replicate slot_count blank) first_slot e; spare = c.spares.result; left = capacity; root = first_slot })) (sym c.first_entry.ensures)
     (started c.spares.result c.spares.ensures.size c.spares.ensures.slots)

@@ -8,18 +8,18 @@ use Rattle.tree.proofs.table.Table.next.Goals as goal
 pub entry-e-requires : goal.entry-e-requires
 entry-e-requires c = in_table 0 c.args.self.now c.requires.sound c.args.p c.requires.used
 
-pub overflow-sub-e : goal.overflow-sub-e
-overflow-sub-e c = omega (arith, ap (λ (e : Entry). e.uses) c.entry-e.ensures, root_uses c.args.self.now c.requires.sound c.args.p c.requires.used c.if-p-self.true)
+pub overflow_sub-e : goal.overflow_sub-e
+overflow_sub-e c = omega (arith, ap (λ (e : Entry). e.uses) c.entry-e.ensures, root_uses c.args.self.now c.requires.sound c.args.p c.requires.used c.if-p-self.true)
 
-pub overflow-sub-e-then-p-self : goal.overflow-sub-e-then-p-self
-overflow-sub-e-then-p-self c = omega (arith, ap (λ (e : Entry). e.below) c.entry-e.ensures, root_below c.args.self.now c.requires.sound c.args.p c.requires.used c.if-p-self.true)
+pub overflow_sub-e-then-p-self : goal.overflow_sub-e-then-p-self
+overflow_sub-e-then-p-self c = omega (arith, ap (λ (e : Entry). e.below) c.entry-e.ensures, root_below c.args.self.now c.requires.sound c.args.p c.requires.used c.if-p-self.true)
 
 pub returns-then-p-self : goal.returns-then-p-self
 returns-then-p-self c =
-    leads_root c.args.self.now c.requires.sound c.args.p c.requires.used c.if-p-self.true c.next-of.result
-    (subst (λ (e : Entry). Stands (e.uses - 1) (e.below - c.args.p) c.next-of.result) c.entry-e.ensures c.next-of.ensures)
+    leads_root c.args.self.now c.requires.sound c.args.p c.requires.used c.if-p-self.true c.next_of.result
+    (subst (λ (e : Entry). Stands (e.uses - 1) (e.below - c.args.p) c.next_of.result) c.entry-e.ensures c.next_of.ensures)
 
 pub returns : goal.returns
 returns c =
-    leads_inner c.args.self.now c.requires.sound c.args.p c.requires.used c.if-p-self.false c.next-of-2.result
-    (subst (λ (e : Entry). Stands e.uses e.below c.next-of-2.result) c.entry-e.ensures c.next-of-2.ensures)
+    leads_inner c.args.self.now c.requires.sound c.args.p c.requires.used c.if-p-self.false c.next_of-2.result
+    (subst (λ (e : Entry). Stands e.uses e.below c.next_of-2.result) c.entry-e.ensures c.next_of-2.ensures)

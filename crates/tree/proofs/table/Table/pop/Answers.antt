@@ -4,14 +4,14 @@ use Rattle.tree.proofs.Raising.{below_is, c≢r, c_in, c_pos, raise_left, raise_
 use Rattle.tree.proofs.Sharing.{unshared}
 use Rattle.tree.proofs.table.Table.pop.Goals as goal
 
-pub begins-alike-requires : goal.begins-alike-requires
-begins-alike-requires c = in_table 0 c.args.self.now c.requires.sound c.args.self.now.root (root_used 0 c.args.self.now c.requires.sound)
+pub begins_alike-requires : goal.begins_alike-requires
+begins_alike-requires c = in_table 0 c.args.self.now c.requires.sound c.args.self.now.root (root_used 0 c.args.self.now c.requires.sound)
 
 pub raise-requires : goal.raise-requires
 raise-requires c =
     let t = c.args.self.now in
     let S = c.requires.sound in
-    let q = c.begins-alike.ensures.yes c.if-not-begins-alike.false in
+    let q = c.begins_alike.ensures.yes c.if-not-begins_alike.false in
     let two = q.0 in
     let loose = q.1 in
     let k = c_in t S two loose in
@@ -29,9 +29,9 @@ pub returns : goal.returns
 returns c =
     let t = c.args.self.now in
     let S = c.requires.sound in
-    let q = c.begins-alike.ensures.yes c.if-not-begins-alike.false in
+    let q = c.begins_alike.ensures.yes c.if-not-begins_alike.false in
     shifted_as t _ _ _ _ (raise_shifted t S q.0 q.1) c.raise.ensures.value c.raise.ensures.after
 
-pub returns-then-not-begins-alike : goal.returns-then-not-begins-alike
-returns-then-not-begins-alike c =
-    (refl, unshared c.args.self.now c.requires.sound (c.begins-alike.ensures.no c.if-not-begins-alike.true))
+pub returns-then-not-begins_alike : goal.returns-then-not-begins_alike
+returns-then-not-begins_alike c =
+    (refl, unshared c.args.self.now c.requires.sound (c.begins_alike.ensures.no c.if-not-begins_alike.true))

@@ -12,7 +12,7 @@ pub returns-then-self-ge-POINTS : goal.returns-then-self-ge-POINTS
 returns-then-self-ge-POINTS c n es h =
     let e = text c.args.bytes.now in
     let d = c.args.self.now in
-    done_out (Unit {0}) n c.args.at (e ∷ es) d c.too-large.result c.too-large.ensures
+    done_out (Unit {0}) n c.args.at (e ∷ es) d c.too_large.result c.too_large.ensures
     (elim c.then-self-ge-POINTS.branch [
       | then-self-ge-POINTS-via-then-self-ge-POINTS w ↦ points_out (e ∷ es) (omega (arith, h.count, w.if-self-ge-POINTS.true))
       | then-self-ge-POINTS-via-else-self-ge-POINTS+then-len-used w ↦
@@ -25,8 +25,8 @@ returns c n es h =
     let d = c.args.self.now in
     let bs = c.args.bytes.now in
     let e = text bs in
-    let ys = c.copy-from-slice.new.self in
-    let same : ys ≡ bs = c.copy-from-slice.ensures.after in
+    let ys = c.copy_from_slice.new.self in
+    let same : ys ≡ bs = c.copy_from_slice.ensures.after in
     let room : d.height < length d.parts = omega arith in
     let more : d.count < length d.points = omega arith in
     done_in n c.args.at (e ∷ es) _ tt
