@@ -1,6 +1,6 @@
 -- What calls make of a sink's channels, from stage to stage.
 use Rattle.std.proofs.Common.{◌≡◌, ℕ, cond, eqb, ◌⊎◌, List, [], ◌∷◌, ◌++◌, length, take, drop, is_ok, Some, None, Ok, Err, Option, Result, sym, refl, ap, ◌∙◌, subst, ap₂, inl, inr, append_assoc, append-nil}
-use Rattle.std.proofs.lemmas.Bool.{cases_Bool, eqb_true}
+use Rattle.std.proofs.lemmas.Bool.{cases_Bool, eqb-true}
 use Rattle.fault.specs.declared.refusal.Fault.{Fault}
 use Rattle.alphabet.specs.Meaning.{Meaning}
 use Rattle.pattern.specs.declared.pattern.Pattern.{Pattern}
@@ -92,7 +92,7 @@ module _ (K : Sink-meaning) where
       elim (cases_Bool (eqb c channel)) [
         | inl b ↦
             let here : take n u ≡ s c =
-            ap₂ (λ (k : ℕ) (v : List ℕ). take k v) (count n refl) e ∙ front_is (s channel) (drop (length (s channel)) x) ∙ ap s (sym (eqb_true c channel b)) in
+            ap₂ (λ (k : ℕ) (v : List ℕ). take k v) (count n refl) e ∙ front_is (s channel) (drop (length (s channel)) x) ∙ ap s (sym (eqb-true c channel b)) in
             simp b (ap (λ (v : List ℕ). v ++ []) here)
         | inr b ↦ simp b (sym (append-nil (s c)))
       ]

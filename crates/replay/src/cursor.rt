@@ -57,7 +57,7 @@ fn branch(bit: bool, first: u8, second: u8) -> u8
 
 // The item of reading the symbol, if it belongs to the class.
 fn item_of<L: Alphabet>(alphabet: &L, class: u16, symbol: &L::Symbol) -> Option<u32>
-    ensures { result ≡ read_of (meaning alphabet.now) class symbol.now }
+    ensures { result ≡ read_of (L.meaning alphabet.now) class symbol.now }
 {
     read_item(alphabet, class as u32, symbol)
 }
@@ -69,7 +69,7 @@ fn next_item<L: Alphabet>(
     symbols: &[L::Symbol],
     read: usize,
 ) -> Result<u32, Fault>
-    ensures { result ≡ next_item (meaning alphabet.now) class (drop read symbols.now) read }
+    ensures { result ≡ next_item (L.meaning alphabet.now) class (drop read symbols.now) read }
 {
     if read >= symbols.len() {
         return Err(broken(read));

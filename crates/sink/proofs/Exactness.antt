@@ -1,6 +1,6 @@
 -- When each answer is given.
 use Rattle.std.proofs.Common.{◌≡◌, ℕ, ◌+◌, Bool, true, false, cond, ◌&&◌, ◌||◌, eqb, leb, List, [], ◌∷◌, length, Ok, Err, Result, sym, refl, ap, ◌∙◌, subst, ap₂, inl, inr, arith}
-use Rattle.std.proofs.lemmas.Bool.{leb-true, leb-false, le-leb, lt-leb, and_parts, eqb_true, eq-eqb, cases_Bool}
+use Rattle.std.proofs.lemmas.Bool.{leb-true, leb-false, le-leb, lt-leb, and_parts, eqb-true, eq-eqb, cases_Bool}
 use Rattle.fault.specs.declared.refusal.Fault.{Fault}
 use Rattle.fault.specs.declared.cause.Cause.TheVariants.{NotExpected, ChannelFull, NoChannel, ShortBuffer}
 use Rattle.sink.specs.Meaning.{Meaning, Stocks, every, among, room, fits, take_answer, sink_fault}
@@ -12,7 +12,7 @@ every_at f [] h c k = absurd (let z : ◌≡◌ {A = ℕ} 0 1 = cc in omega arit
 every_at f (d ∷ ds) h c k =
     let p = and_parts (f d) (every f ds) h in
     elim (cases_Bool (eqb c d)) [
-      | inl e ↦ ap f (eqb_true c d e) ∙ p.0
+      | inl e ↦ ap f (eqb-true c d e) ∙ p.0
       | inr e ↦ every_at f ds p.1 c (sym (ap (λ (b : Bool). b || among c ds) e) ∙ k)
     ]
 

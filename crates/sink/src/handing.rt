@@ -14,10 +14,10 @@ pub struct Handed {
 
 // Hands the items to the sink in turn, up to the first that it refuses.
 pub fn hand_over<S: Sink>(sink: &mut S, items: &[u32]) -> Handed
-    ensures count { result.count ≡ taken_count meaning (position sink.old) (stock sink.old) items.now }
-    ensures answer { result.answer ≡ hand_answer meaning (position sink.old) (stock sink.old) items.now }
-    ensures moved { position sink.new ≡ moved_by meaning (position sink.old) (front result.count items.now) }
-    ensures stocked { stock sink.new ≡ grown_by meaning (position sink.old) (stock sink.old) (front result.count items.now) }
+    ensures count { result.count ≡ taken_count S.meaning (S.position sink.old) (S.stock sink.old) items.now }
+    ensures answer { result.answer ≡ hand_answer S.meaning (S.position sink.old) (S.stock sink.old) items.now }
+    ensures moved { S.position sink.new ≡ moved_by S.meaning (S.position sink.old) (front result.count items.now) }
+    ensures stocked { S.stock sink.new ≡ grown_by S.meaning (S.position sink.old) (S.stock sink.old) (front result.count items.now) }
 {
     let mut count = 0;
     for item in items {

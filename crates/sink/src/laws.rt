@@ -16,9 +16,9 @@ pub struct Asked {
 // Asks the sink about the item and then takes it: what is told is what is done.
 pub fn ask_and_take<S: Sink>(sink: &mut S, item: u32) -> Asked
     ensures same { result.told ≡ result.done }
-    ensures answer { result.done ≡ take_answer meaning (position sink.old) (stock sink.old) item }
-    ensures moved { position sink.new ≡ (if is_ok result.done then meaning.next (position sink.old) item else position sink.old) }
-    ensures stocked { stock sink.new ≡ (if is_ok result.done then grown meaning (position sink.old) (stock sink.old) item else stock sink.old) }
+    ensures answer { result.done ≡ take_answer S.meaning (S.position sink.old) (S.stock sink.old) item }
+    ensures moved { S.position sink.new ≡ (if is_ok result.done then S.meaning.next (S.position sink.old) item else S.position sink.old) }
+    ensures stocked { S.stock sink.new ≡ (if is_ok result.done then grown S.meaning (S.position sink.old) (S.stock sink.old) item else S.stock sink.old) }
 {
     let told = sink.would(item);
     Asked {

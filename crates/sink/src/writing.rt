@@ -18,10 +18,10 @@ pub fn hand_and_pour<S: Sink>(
     channel: u32,
     buffer: &mut [u8],
 ) -> Result<usize, Fault>
-    ensures answer { result ≡ write_answer meaning (position sink.old) (stock sink.old) items.now channel (length buffer.old) }
-    ensures moved { position sink.new ≡ position_then meaning (position sink.old) (stock sink.old) items.now }
-    ensures stocked { stock sink.new ≡ (if is_ok result then emptied (stocks_then meaning (position sink.old) (stock sink.old) items.now) channel else stocks_then meaning (position sink.old) (stock sink.old) items.now) }
-    ensures written { buffer.new ≡ (if is_ok result then fronted (stocks_then meaning (position sink.old) (stock sink.old) items.now channel) buffer.old else buffer.old) }
+    ensures answer { result ≡ write_answer S.meaning (S.position sink.old) (S.stock sink.old) items.now channel (length buffer.old) }
+    ensures moved { S.position sink.new ≡ position_then S.meaning (S.position sink.old) (S.stock sink.old) items.now }
+    ensures stocked { S.stock sink.new ≡ (if is_ok result then emptied (stocks_then S.meaning (S.position sink.old) (S.stock sink.old) items.now) channel else stocks_then S.meaning (S.position sink.old) (S.stock sink.old) items.now) }
+    ensures written { buffer.new ≡ (if is_ok result then fronted (stocks_then S.meaning (S.position sink.old) (S.stock sink.old) items.now channel) buffer.old else buffer.old) }
 {
     hand_over(sink, items).answer?;
     sink.pour(channel, buffer)

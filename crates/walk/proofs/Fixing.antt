@@ -1,5 +1,5 @@
 -- A walk is fixed by its code, by its choices, and by the bytes that file them.
-use Rattle.std.proofs.Common.{◌≡◌, ℕ, zero, suc, ◌+◌, ◌-◌, ◌*◌, ◌/◌, ◌%◌, ◌<◌, ◌≤◌, Bool, true, false, cond, eqb, ltb, ◌⊎◌, List, [], ◌∷◌, ◌++◌, length, replicate, sym, refl, ap, ◌∙◌, subst, inl, inr, append_assoc, append-nil, zero-add, arith, length-append, ne_eqb, eqb_true}
+use Rattle.std.proofs.Common.{◌≡◌, ℕ, zero, suc, ◌+◌, ◌-◌, ◌*◌, ◌/◌, ◌%◌, ◌<◌, ◌≤◌, Bool, true, false, cond, eqb, ltb, ◌⊎◌, List, [], ◌∷◌, ◌++◌, length, replicate, sym, refl, ap, ◌∙◌, subst, inl, inr, append_assoc, append-nil, zero-add, arith, length-append, ne_eqb, eqb-true}
 use lib.ListN.{length-replicate}
 use borrow.Author.Tests.{eqb-false}
 use Rattle.alphabet.specs.Meaning.{Meaning}
@@ -116,7 +116,7 @@ packed_bits held (b ∷ bs) h = go (eqb (length held) 7) refl (λ more k. packed
         (m : ℕ) × (bits_of (cond t (byte_of (held ++ (b ∷ [])) ∷ packed_after [] bs) (packed_after (held ++ (b ∷ [])) bs)) ≡ (held ++ (b ∷ bs)) ++ replicate m false)
     go true e ih =
         let i = ih [] (omega arith) in
-        let f = full (held ++ (b ∷ [])) (omega (arith, l, eqb_true (length held) 7 e)) in
+        let f = full (held ++ (b ∷ [])) (omega (arith, l, eqb-true (length held) 7 e)) in
         (i.0, ap (λ xs. xs ++ bits_of (packed_after [] bs)) f ∙ ap (λ xs. (held ++ (b ∷ [])) ++ xs) i.1 ∙ simp append_assoc)
     go false e ih =
         let n = eqb-false (length held) 7 e in

@@ -41,8 +41,8 @@ common_right (x ∷ c) (y ∷ d) = go (eqb x y) refl (common_right c d)
     go true e h = rw (eqb→eq x y (rw e tt)) (begins_cons y d (common c d) h)
     go false e h = begins_nil (y ∷ d)
 
-pub eqb_true : (x y : ℕ) → x ≡ y → eqb x y ≡ true
-eqb_true x y e = rw e (T_true (eqb y y) (eqb_refl y))
+pub eqb-true : (x y : ℕ) → x ≡ y → eqb x y ≡ true
+eqb-true x y e = rw e (T_true (eqb y y) (eqb_refl y))
 
 pub common_longest : (c d t : Code) → Begins c t → Begins d t → Begins (common c d) t
 common_longest c d [] x y = begins_nil (common c d)
@@ -51,7 +51,7 @@ common_longest (j ∷ c) [] (i ∷ t) x y = absurd (not_begins i t y)
 common_longest (j ∷ c) (k ∷ d) (i ∷ t) x y =
     let u = begins_tail j i c t x in
     let v = begins_tail k i d t y in
-    rw (eqb_true j k (u.0 ∙ sym v.0)) (rw u.0 (begins_cons i (common c d) t (common_longest c d t u.1 v.1)))
+    rw (eqb-true j k (u.0 ∙ sym v.0)) (rw u.0 (begins_cons i (common c d) t (common_longest c d t u.1 v.1)))
 
 pub shared_first : (c : Code) (rs : List Reached) → Begins c (shared_with c rs)
 shared_first c [] = begins_refl c

@@ -8,7 +8,7 @@ use Rattle.walk.specs.Search.{Reached, In, Ordered}
 use Rattle.walk.specs.Tree.{Member, Once, tally, remainders, tree_count, Node, Counts}
 use Rattle.walk.proofs.Lists.{Lists, lists_all}
 use Rattle.walk.proofs.Order.{two_ways, never_both, earlier_cancel}
-use Rattle.walk.proofs.Sharing.{begins_nil, begins_cons, begins_tail, not_begins, eqb_true}
+use Rattle.walk.proofs.Sharing.{begins_nil, begins_cons, begins_tail, not_begins, eqb-true}
 
 -- each code after an item
 abbrev under : ℕ → List Code → List Code
@@ -149,7 +149,7 @@ news_new (y ∷ p) (x ∷ c) t m = go (eqb x y) refl m (λ u i. news_new p c u i
         record {
           some = fronts_some t (x ∷ c) m;
           begins = fronts_begin t (x ∷ c) m;
-          fresh = λ b. never_both (eqb_true x y (heads_meet x y c p t (fronts_some t (x ∷ c) m) (fronts_begin t (x ∷ c) m) b)) e;
+          fresh = λ b. never_both (eqb-true x y (heads_meet x y c p t (fronts_some t (x ∷ c) m) (fronts_begin t (x ∷ c) m) b)) e;
         }
 
 new_news : (p c t : Code) → New p c t → Member t (news p c)
@@ -182,8 +182,8 @@ news_once (y ∷ p) (x ∷ c) = go (eqb x y) (news_once p c)
 eqb_sym : (x y : ℕ) → eqb x y ≡ eqb y x
 eqb_sym x y =
     elim (two_ways (eqb x y)) [
-      | inl e ↦ e ∙ sym (eqb_true y x (sym (eqb→eq x y (rw e tt))))
-      | inr e ↦ elim (two_ways (eqb y x)) [ inl f ↦ absurd (never_both (eqb_true x y (sym (eqb→eq y x (rw f tt)))) e) | inr f ↦ e ∙ sym f ]
+      | inl e ↦ e ∙ sym (eqb-true y x (sym (eqb→eq x y (rw e tt))))
+      | inr e ↦ elim (two_ways (eqb y x)) [ inl f ↦ absurd (never_both (eqb-true x y (sym (eqb→eq y x (rw f tt)))) e) | inr f ↦ e ∙ sym f ]
     ]
 
 length_news : (p c : Code) → length (news p c) ≡ length c - length (common p c)
@@ -257,7 +257,7 @@ begins_dec (x ∷ c) (z ∷ t) =
         | inl h ↦ let f : x ≡ z = eqb→eq x z (rw e tt) in inl (rw f (begins_cons z c t h))
         | inr h ↦ inr (λ b. h (begins_tail x z c t b).1)
       ]
-      | inr e ↦ inr (λ b. never_both (eqb_true x z (begins_tail x z c t b).0) e)
+      | inr e ↦ inr (λ b. never_both (eqb-true x z (begins_tail x z c t b).0) e)
     ]
 
 new_all_news : (p : Code) (cs : List Code) (t c : Code) → Member c cs → (t ≡ [] → ⊥) → Begins c t → (Begins p t → ⊥) → Member t (all_news p cs)

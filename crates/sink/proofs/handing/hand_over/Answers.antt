@@ -18,8 +18,8 @@ loop-item-preserved g c =
       omega arith,
       sofar_more g.S.Sink.meaning (g.S.Sink.position s) (g.S.Sink.stock s) c.args.items.now c.loop-item.item-index
           (g.S.Sink.position at) (g.S.Sink.stock at) c.loop-item.invariant.1
-          c.in-default.field-0 (g.S.Sink.position to) (g.S.Sink.stock to) (omega arith)
-          c.in-default.ensures.answer c.in-default.ensures.moved c.in-default.ensures.stocked,
+          c.in_default.field-0 (g.S.Sink.position to) (g.S.Sink.stock to) (omega arith)
+          c.in_default.ensures.answer c.in_default.ensures.moved c.in_default.ensures.stocked,
     )
 
 pub returns-in-Err : goal.returns-in-Err

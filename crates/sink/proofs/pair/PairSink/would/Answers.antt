@@ -15,9 +15,9 @@ returns-in-Err-Ok g c =
     (g.S.Sink.stock s.first) (g.T.Sink.stock s.second) c.args.item
     _ c.in-Err-Ok.one c.in-Err-Ok.ensures c.in-Err-Ok.ensures'
 
-pub returns-in-default : goal.returns-in-default
-returns-in-default g c =
+pub returns-in_default : goal.returns-in_default
+returns-in_default g c =
     let s = c.args.self.now in
     first_full g.S.Sink.meaning g.T.Sink.meaning (g.S.Sink.position s.first) (g.T.Sink.position s.second)
     (g.S.Sink.stock s.first) (g.T.Sink.stock s.second) c.args.item
-    c.in-Err-Err.one c.in-Err-Err.other c.in-Err-Err.ensures c.in-default.not-NotExpected c.in-Err-Err.ensures'
+    c.in-Err-Err.one c.in-Err-Err.other c.in-Err-Err.ensures c.in_default.not-NotExpected c.in-Err-Err.ensures'

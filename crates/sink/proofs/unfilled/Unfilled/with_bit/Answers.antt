@@ -3,10 +3,10 @@ use Rattle.sink.specs.BitsMeaning.{unfilled}
 use Rattle.sink.proofs.BitLists.{more_next, more_added, eighth_next, eighth_added}
 use Rattle.sink.proofs.unfilled.Unfilled.with_bit.Goals as goal
 
-pub invariant-of-result : goal.invariant-of-result
-invariant-of-result c =
+pub invariant_of-result : goal.invariant_of-result
+invariant_of-result c =
     let p : 2 ^ (c.args.self.now.count + 1) ≡ 2 ^ c.args.self.now.count * 2 = rw add-one (pow-suc 2 c.args.self.now.count) in
-    (omega arith, (omega arith, tt))
+    record { few = omega arith; below = omega arith }
 
 pub returns-then-self-eq7 : goal.returns-then-self-eq7
 returns-then-self-eq7 c =
