@@ -125,7 +125,7 @@ fn mark_met(met: &mut PointSet, here: u8, was_read: bool)
 
 // Hands an item over after so many symbols. A refusal keeps its cause; its place is their count.
 fn hand<S: Sink>(sink: &mut S, item: u32, after: usize) -> Result<(), Fault>
-    ensures { Hands meaning (position sink.old) (stock sink.old) item after result (position sink.new) (stock sink.new) }
+    ensures { Hands S.meaning (S.position sink.old) (S.stock sink.old) item after result (S.position sink.new) (S.stock sink.new) }
 {
     match sink.take(item) {
         Ok(()) => Ok(()),
@@ -138,7 +138,7 @@ fn hand<S: Sink>(sink: &mut S, item: u32, after: usize) -> Result<(), Fault>
 
 // Hands the end mark over if nothing is left.
 fn mark_end<S: Sink>(sink: &mut S, is_clear: bool, after: usize) -> Result<(), Fault>
-    ensures { Marks meaning (position sink.old) (stock sink.old) is_clear after result (position sink.new) (stock sink.new) }
+    ensures { Marks S.meaning (S.position sink.old) (S.stock sink.old) is_clear after result (S.position sink.new) (S.stock sink.new) }
 {
     if !is_clear {
         return Err(broken(after));

@@ -1,6 +1,6 @@
 // The sink of bits.
 ghost use Rattle.std.specs.Prelude.{◌≡◌, []};
-ghost use Rattle.sink.specs.BitsMeaning.{bits_meaning, unfilled as unfilled-bits};
+ghost use Rattle.sink.specs.BitsMeaning.{bits_meaning, unfilled as unfilled_bits};
 ghost use Rattle.sink.specs.BitsState.{bits_position, bits_stock};
 ghost use Rattle.sink.specs.Meaning.{nothing};
 
@@ -22,7 +22,7 @@ pub struct Bits {
 impl Bits {
     // A fresh sink: no bit yet, nothing in stock.
     pub fn new() -> Bits
-        ensures position { bits_position result ≡ unfilled-bits [] }
+        ensures position { bits_position result ≡ unfilled_bits [] }
         ensures stock { bits_stock result ≡ nothing }
     {
         Bits {

@@ -10,8 +10,8 @@ on c = step_on c.args.pattern.now c.loop-next.at c.in-Pass.next (sym c.in-Pass.e
 short : (c : goal.After-text) → length c.text.result.now ≤ most_text
 short c = omega (arith, ap length c.text.ensures, short_text c.args.pattern.now c.loop-next.at)
 
-pub overflow-add-bytes : goal.overflow-add-bytes
-overflow-add-bytes c = omega (arith, c.loop-next.invariant.0, short c, (on c).up, (on c).within, few c.args.pattern.now)
+pub overflow_add-bytes : goal.overflow_add-bytes
+overflow_add-bytes c = omega (arith, c.loop-next.invariant.0, short c, (on c).up, (on c).within, few c.args.pattern.now)
 
 pub loop-next-smaller : goal.loop-next-smaller
 loop-next-smaller c = omega (arith, (on c).up, (on c).within)
@@ -28,6 +28,6 @@ returns c =
     let p = c.args.pattern.now in
     let k = c.loop-next.at in
     record {
-      point = sym (step_stays p k (λ n e. c.in-default.not-Pass n (c.step.ensures ∙ e))) ∙ c.loop-next.invariant.1;
-      long = omega (arith, c.loop-next.invariant.2, ap length (step_silent p k (λ n e. c.in-default.not-Pass n (c.step.ensures ∙ e))));
+      point = sym (step_stays p k (λ n e. c.in_default.not-Pass n (c.step.ensures ∙ e))) ∙ c.loop-next.invariant.1;
+      long = omega (arith, c.loop-next.invariant.2, ap length (step_silent p k (λ n e. c.in_default.not-Pass n (c.step.ensures ∙ e))));
     }

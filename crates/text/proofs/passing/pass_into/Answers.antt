@@ -32,5 +32,5 @@ returns c =
     let p = c.args.pattern.now in
     let h = held c.loop-next.stock in
     sym (append-nil h)
-    ∙ sym (ap (λ (x : List ℕ). h ++ x) (step_silent p c.loop-next.at (λ n e. c.in-default.not-Pass n (c.step.ensures ∙ e))))
+    ∙ sym (ap (λ (x : List ℕ). h ++ x) (step_silent p c.loop-next.at (λ n e. c.in_default.not-Pass n (c.step.ensures ∙ e))))
     ∙ c.loop-next.invariant

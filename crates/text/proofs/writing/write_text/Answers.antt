@@ -11,18 +11,18 @@ pub returns : goal.returns
 returns c =
     let items = c.args.items.now in
     let old = c.args.buffer.now in
-    let r = c.hand-and-pour.result in
+    let r = c.hand_and_pour.result in
     let fresh = c.new-sink.ensures in
     let start = start_of c.args.pattern.now c.args.manner in
     let answered : r ≡ write_answer text_meaning start nothing items 0 (length old) =
-    c.hand-and-pour.ensures.answer
+    c.hand_and_pour.ensures.answer
     ∙ ap₂ (λ (p : TextPosition) (s : Stocks). write_answer text_meaning p s items 0 (length old)) fresh.position fresh.stock in
-    let poured : c.hand-and-pour.new.buffer ≡ cond (is_ok r) (fronted (stocks_then text_meaning start nothing items 0) old) old =
-    c.hand-and-pour.ensures.written
+    let poured : c.hand_and_pour.new.buffer ≡ cond (is_ok r) (fronted (stocks_then text_meaning start nothing items 0) old) old =
+    c.hand_and_pour.ensures.written
     ∙ ap₂ (λ (p : TextPosition) (s : Stocks). cond (is_ok r) (fronted (stocks_then text_meaning p s items 0) old) old) fresh.position fresh.stock in
     record {
       answer = answered;
       written =
           written_all text_meaning start nothing items 0 r (pour_answer text_meaning (stocks_then text_meaning start nothing items) 0 (length old))
-          (text_of_items start items) old c.hand-and-pour.new.buffer answered poured (λ _. ap (λ (s : Stocks). s 0) (adds_text start items));
+          (text_of_items start items) old c.hand_and_pour.new.buffer answered poured (λ _. ap (λ (s : Stocks). s 0) (adds_text start items));
     }

@@ -5,8 +5,8 @@ use Rattle.reader.specs.Gather.{items_of}
 use Rattle.reader.proofs.Opening.{starts}
 use Rattle.reader.proofs.reader.Reader.open.Goals as goal
 
-pub invariant-of-result : goal.invariant-of-result
-invariant-of-result g c = ((λ _. ∣ ([], (items_of c.open-core.new.out, starts c.args.pattern.now c.open-core.result (items_of c.open-core.new.out) c.open-core.ensures.opened every)) ∣₁), tt)
+pub invariant_of-result : goal.invariant_of-result
+invariant_of-result g c = record { stands = λ _. ∣ ([], (items_of c.open-core.new.out, starts c.args.pattern.now c.open-core.result (items_of c.open-core.new.out) c.open-core.ensures.opened every)) ∣₁ }
 
 pub returns : goal.returns
 returns g c =

@@ -11,8 +11,8 @@ use Rattle.reader.proofs.state.Core.advance.Goals as goal
 pub sweep-requires : goal.sweep-requires
 sweep-requires g c = begun_some (g.A.Alphabet.meaning c.args.alphabet.now) c.args.symbol.now c.args.pattern.now c.args.self.now c.clear.new.self c.clear.ensures c.requires.fit
 
-pub take-over-requires : goal.take-over-requires
-take-over-requires g c =
+pub take_over-requires : goal.take_over-requires
+take_over-requires g c =
     let F = c.requires.fit in
     let W = swept_from (g.A.Alphabet.meaning c.args.alphabet.now) c.args.symbol.now c.args.pattern.now c.args.self.now c.clear.new.self c.sweep.new.self c.clear.ensures c.sweep.ensures.moved c.sweep.ensures.kept F.walks F.standing F.space in
     (W.spots, (W.state.found_size, W.state.live_size))
@@ -28,24 +28,24 @@ returns-then-self-eq0 g c =
       exact = exactly (g.A.Alphabet.meaning c.args.alphabet.now) c.args.pattern.now c.args.symbol.now c.args.self.now (Err Dead) c.sweep.new.self [] reads;
     }
 
-pub returns-then-is-over : goal.returns-then-is-over
-returns-then-is-over g c =
-    let reads : Advances (g.A.Alphabet.meaning c.args.alphabet.now) c.args.pattern.now c.args.symbol.now c.args.self.now (Err TreeFull) (turned c.sweep.new.self c.gather.new.tree c.take-over.new.self) [] =
-    answers_full (g.A.Alphabet.meaning c.args.alphabet.now) c.args.symbol.now c.args.pattern.now (g.A.Alphabet.meaning c.args.alphabet.now) c.args.symbol.now (λ ls rs Y W. W) c.args.self.now c.clear.new.self c.sweep.new.self c.clear.ensures c.sweep.ensures.moved c.sweep.ensures.kept c.gather.new.tree (items_of c.gather.new.out) c.take-over.new.self c.gather.ensures.all c.gather.ensures.parted c.take-over.ensures.walks c.take-over.ensures.len c.take-over.ensures.size c.if-self-eq0.false c.count.result c.count.ensures.counts (over c.count.result c.is-over.result c.is-over.ensures c.if-is-over.true) in
+pub returns-then-is_over : goal.returns-then-is_over
+returns-then-is_over g c =
+    let reads : Advances (g.A.Alphabet.meaning c.args.alphabet.now) c.args.pattern.now c.args.symbol.now c.args.self.now (Err TreeFull) (turned c.sweep.new.self c.gather.new.tree c.take_over.new.self) [] =
+    answers_full (g.A.Alphabet.meaning c.args.alphabet.now) c.args.symbol.now c.args.pattern.now (g.A.Alphabet.meaning c.args.alphabet.now) c.args.symbol.now (λ ls rs Y W. W) c.args.self.now c.clear.new.self c.sweep.new.self c.clear.ensures c.sweep.ensures.moved c.sweep.ensures.kept c.gather.new.tree (items_of c.gather.new.out) c.take_over.new.self c.gather.ensures.all c.gather.ensures.parted c.take_over.ensures.walks c.take_over.ensures.len c.take_over.ensures.size c.if-self-eq0.false c.count.result c.count.ensures.counts (over c.count.result c.is_over.result c.is_over.ensures c.if-is_over.true) in
     record {
       whole = record { size = c.gather.ensures.whole.size; within = omega arith };
       reads = reads;
-      seen = answers_full (g.A.Alphabet.meaning c.args.alphabet.now) c.args.symbol.now c.args.pattern.now every (see (g.A.Alphabet.meaning c.args.alphabet.now) c.args.symbol.now) (λ ls rs Y W. sweep_seen (g.A.Alphabet.meaning c.args.alphabet.now) c.args.symbol.now W) c.args.self.now c.clear.new.self c.sweep.new.self c.clear.ensures c.sweep.ensures.moved c.sweep.ensures.kept c.gather.new.tree (items_of c.gather.new.out) c.take-over.new.self c.gather.ensures.all c.gather.ensures.parted c.take-over.ensures.walks c.take-over.ensures.len c.take-over.ensures.size c.if-self-eq0.false c.count.result c.count.ensures.counts (over c.count.result c.is-over.result c.is-over.ensures c.if-is-over.true);
-      exact = exactly (g.A.Alphabet.meaning c.args.alphabet.now) c.args.pattern.now c.args.symbol.now c.args.self.now (Err TreeFull) (turned c.sweep.new.self c.gather.new.tree c.take-over.new.self) [] reads;
+      seen = answers_full (g.A.Alphabet.meaning c.args.alphabet.now) c.args.symbol.now c.args.pattern.now every (see (g.A.Alphabet.meaning c.args.alphabet.now) c.args.symbol.now) (λ ls rs Y W. sweep_seen (g.A.Alphabet.meaning c.args.alphabet.now) c.args.symbol.now W) c.args.self.now c.clear.new.self c.sweep.new.self c.clear.ensures c.sweep.ensures.moved c.sweep.ensures.kept c.gather.new.tree (items_of c.gather.new.out) c.take_over.new.self c.gather.ensures.all c.gather.ensures.parted c.take_over.ensures.walks c.take_over.ensures.len c.take_over.ensures.size c.if-self-eq0.false c.count.result c.count.ensures.counts (over c.count.result c.is_over.result c.is_over.ensures c.if-is_over.true);
+      exact = exactly (g.A.Alphabet.meaning c.args.alphabet.now) c.args.pattern.now c.args.symbol.now c.args.self.now (Err TreeFull) (turned c.sweep.new.self c.gather.new.tree c.take_over.new.self) [] reads;
     }
 
 pub returns : goal.returns
 returns g c =
-    let reads : Advances (g.A.Alphabet.meaning c.args.alphabet.now) c.args.pattern.now c.args.symbol.now c.args.self.now (Ok tt) (turned c.sweep.new.self c.gather.new.tree c.take-over.new.self) (items_of c.gather.new.out) =
-    answers_read (g.A.Alphabet.meaning c.args.alphabet.now) c.args.symbol.now c.args.pattern.now (g.A.Alphabet.meaning c.args.alphabet.now) c.args.symbol.now (λ ls rs Y W. W) c.args.self.now c.clear.new.self c.sweep.new.self c.clear.ensures c.sweep.ensures.moved c.sweep.ensures.kept c.gather.new.tree (items_of c.gather.new.out) c.take-over.new.self c.gather.ensures.all c.gather.ensures.parted c.take-over.ensures.walks c.take-over.ensures.len c.take-over.ensures.size c.if-self-eq0.false c.count.result c.count.ensures.counts c.count.ensures.room (not_over c.count.result c.is-over.result c.is-over.ensures c.if-is-over.false) in
+    let reads : Advances (g.A.Alphabet.meaning c.args.alphabet.now) c.args.pattern.now c.args.symbol.now c.args.self.now (Ok tt) (turned c.sweep.new.self c.gather.new.tree c.take_over.new.self) (items_of c.gather.new.out) =
+    answers_read (g.A.Alphabet.meaning c.args.alphabet.now) c.args.symbol.now c.args.pattern.now (g.A.Alphabet.meaning c.args.alphabet.now) c.args.symbol.now (λ ls rs Y W. W) c.args.self.now c.clear.new.self c.sweep.new.self c.clear.ensures c.sweep.ensures.moved c.sweep.ensures.kept c.gather.new.tree (items_of c.gather.new.out) c.take_over.new.self c.gather.ensures.all c.gather.ensures.parted c.take_over.ensures.walks c.take_over.ensures.len c.take_over.ensures.size c.if-self-eq0.false c.count.result c.count.ensures.counts c.count.ensures.room (not_over c.count.result c.is_over.result c.is_over.ensures c.if-is_over.false) in
     record {
       whole = c.gather.ensures.whole;
       reads = reads;
-      seen = answers_read (g.A.Alphabet.meaning c.args.alphabet.now) c.args.symbol.now c.args.pattern.now every (see (g.A.Alphabet.meaning c.args.alphabet.now) c.args.symbol.now) (λ ls rs Y W. sweep_seen (g.A.Alphabet.meaning c.args.alphabet.now) c.args.symbol.now W) c.args.self.now c.clear.new.self c.sweep.new.self c.clear.ensures c.sweep.ensures.moved c.sweep.ensures.kept c.gather.new.tree (items_of c.gather.new.out) c.take-over.new.self c.gather.ensures.all c.gather.ensures.parted c.take-over.ensures.walks c.take-over.ensures.len c.take-over.ensures.size c.if-self-eq0.false c.count.result c.count.ensures.counts c.count.ensures.room (not_over c.count.result c.is-over.result c.is-over.ensures c.if-is-over.false);
-      exact = exactly (g.A.Alphabet.meaning c.args.alphabet.now) c.args.pattern.now c.args.symbol.now c.args.self.now (Ok tt) (turned c.sweep.new.self c.gather.new.tree c.take-over.new.self) (items_of c.gather.new.out) reads;
+      seen = answers_read (g.A.Alphabet.meaning c.args.alphabet.now) c.args.symbol.now c.args.pattern.now every (see (g.A.Alphabet.meaning c.args.alphabet.now) c.args.symbol.now) (λ ls rs Y W. sweep_seen (g.A.Alphabet.meaning c.args.alphabet.now) c.args.symbol.now W) c.args.self.now c.clear.new.self c.sweep.new.self c.clear.ensures c.sweep.ensures.moved c.sweep.ensures.kept c.gather.new.tree (items_of c.gather.new.out) c.take_over.new.self c.gather.ensures.all c.gather.ensures.parted c.take_over.ensures.walks c.take_over.ensures.len c.take_over.ensures.size c.if-self-eq0.false c.count.result c.count.ensures.counts c.count.ensures.room (not_over c.count.result c.is_over.result c.is_over.ensures c.if-is_over.false);
+      exact = exactly (g.A.Alphabet.meaning c.args.alphabet.now) c.args.pattern.now c.args.symbol.now c.args.self.now (Ok tt) (turned c.sweep.new.self c.gather.new.tree c.take_over.new.self) (items_of c.gather.new.out) reads;
     }

@@ -7,8 +7,8 @@ keep-requires c = record {
   state = picking_midway c.args.end c.args.self.now c.args.i c.requires.here c.requires.state;
 }
 
-pub let-go-requires : goal.let-go-requires
-let-go-requires c = record { here = c.requires.here; state = picking_midway c.args.end c.args.self.now c.args.i c.requires.here c.requires.state }
+pub let_go-requires : goal.let_go-requires
+let_go-requires c = record { here = c.requires.here; state = picking_midway c.args.end c.args.self.now c.args.i c.requires.here c.requires.state }
 
 pub returns-then-self-i : goal.returns-then-self-i
 returns-then-self-i c = record {
@@ -18,6 +18,6 @@ returns-then-self-i c = record {
 
 pub returns-else-self-i : goal.returns-else-self-i
 returns-else-self-i c = record {
-  moved = passed_on c.args.end c.args.self.now c.args.i c.requires.here c.let-go.new.self c.if-self-i.false c.let-go.ensures.moved c.let-go.ensures.found c.let-go.ensures.more;
-  kept = c.let-go.ensures.kept;
+  moved = passed_on c.args.end c.args.self.now c.args.i c.requires.here c.let_go.new.self c.if-self-i.false c.let_go.ensures.moved c.let_go.ensures.found c.let_go.ensures.more;
+  kept = c.let_go.ensures.kept;
 }

@@ -8,21 +8,21 @@ use Rattle.reader.specs.Seen.{every}
 use Rattle.reader.proofs.Ending.{picking_first, all_picked, ends_no, ends_yes}
 use Rattle.reader.proofs.state.Core.end.Goals as goal
 
-pub walk-to-requires : goal.walk-to-requires
-walk-to-requires g c = (c.requires.fit.standing.live_len, c.requires.fit.standing.live_size)
+pub walk_to-requires : goal.walk_to-requires
+walk_to-requires g c = (c.requires.fit.standing.live_len, c.requires.fit.standing.live_size)
 
 pub pick-requires : goal.pick-requires
 pick-requires g c =
     let F = c.requires.fit in
     record { state = (F.walks, picking_first c.count-end.result c.args.self.now c.forget.new.self F.walks c.forget.ensures F.standing F.space) }
 
-pub returns-in-default : goal.returns-in-default
-returns-in-default g c = record {
+pub returns-in_default : goal.returns-in_default
+returns-in_default g c = record {
   whole = record { size = c.requires.whole.size; within = omega arith };
   none = λ _. refl;
   few = omega arith;
-  ends = ends_no (g.A.Alphabet.meaning c.args.alphabet.now) c.args.pattern.now c.args.self.now (λ o. c.in-default.ensures (subst (λ (j : ℕ). On j (listed c.args.self.now.live)) (sym c.count-end.ensures) o)) [];
-  seen = ends_no every c.args.pattern.now c.args.self.now (λ o. c.in-default.ensures (subst (λ (j : ℕ). On j (listed c.args.self.now.live)) (sym c.count-end.ensures) o)) [];
+  ends = ends_no (g.A.Alphabet.meaning c.args.alphabet.now) c.args.pattern.now c.args.self.now (λ o. c.in_default.ensures (subst (λ (j : ℕ). On j (listed c.args.self.now.live)) (sym c.count-end.ensures) o)) [];
+  seen = ends_no every c.args.pattern.now c.args.self.now (λ o. c.in_default.ensures (subst (λ (j : ℕ). On j (listed c.args.self.now.live)) (sym c.count-end.ensures) o)) [];
 }
 
 pub returns : goal.returns

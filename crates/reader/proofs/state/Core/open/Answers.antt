@@ -6,8 +6,8 @@ use Rattle.reader.proofs.state.Core.open.Goals as goal
 pub spread-requires : goal.spread-requires
 spread-requires c = ready_first c.new.result c.new.ensures c.new-2.result c.new-2.ensures c.entry.result (omega arith)
 
-pub take-over-requires : goal.take-over-requires
-take-over-requires c =
+pub take_over-requires : goal.take_over-requires
+take_over-requires c =
     let S = state_found c.new.result c.new.ensures c.new-2.result c.new-2.ensures c.args.pattern.now c.entry.result c.spread.new.self c.spread.ensures in
     (spots_first c.new.result c.new.ensures c.new-2.result c.new-2.ensures c.args.pattern.now c.entry.result c.spread.new.self c.spread.ensures, (S.found_size, S.live_size))
 
@@ -15,5 +15,5 @@ pub returns : goal.returns
 returns c = record {
   whole = c.gather.ensures.whole;
   opened = opened c.new.result c.new.ensures c.new-2.result c.new-2.ensures c.args.pattern.now c.entry.result c.spread.new.self c.spread.ensures c.entry.ensures.value (items_of c.gather.new.out) c.gather.new.tree
-      c.take-over.new.self c.take-over.ensures.walks c.take-over.ensures.len c.take-over.ensures.size c.gather.ensures.all c.gather.ensures.parted;
+      c.take_over.new.self c.take_over.ensures.walks c.take_over.ensures.len c.take_over.ensures.size c.gather.ensures.all c.gather.ensures.parted;
 }

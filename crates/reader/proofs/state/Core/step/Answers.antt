@@ -7,8 +7,8 @@ carry-requires g c = record {
   state = midway_spare (g.A.Alphabet.meaning c.args.alphabet.now) c.args.symbol.now c.args.pattern.now c.args.self.now c.args.i c.requires.here c.requires.way;
 }
 
-pub let-go-requires : goal.let-go-requires
-let-go-requires g c = record {
+pub let_go-requires : goal.let_go-requires
+let_go-requires g c = record {
   here = c.requires.here;
   state = midway (g.A.Alphabet.meaning c.args.alphabet.now) c.args.symbol.now c.args.pattern.now c.args.self.now c.args.i c.requires.here c.requires.way;
 }
@@ -25,6 +25,6 @@ pub returns-in-None : goal.returns-in-None
 returns-in-None g c =
     record {
       moved = stays_back (g.A.Alphabet.meaning c.args.alphabet.now) c.args.symbol.now c.args.pattern.now c.args.self.now c.args.i c.requires.here
-          c.let-go.new.self c.in-None.ensures c.let-go.ensures.marks c.let-go.ensures.found c.let-go.ensures.more c.let-go.ensures.moved;
-      kept = c.let-go.ensures.kept;
+          c.let_go.new.self c.in-None.ensures c.let_go.ensures.marks c.let_go.ensures.found c.let_go.ensures.more c.let_go.ensures.moved;
+      kept = c.let_go.ensures.kept;
     }

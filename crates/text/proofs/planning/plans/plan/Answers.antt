@@ -15,14 +15,14 @@ use Rattle.text.proofs.planning.plans.plan.Goals.{then-long-room-via-then-long-r
 pub returns-then-long-room : goal.returns-then-long-room
 returns-then-long-room c =
     let p = c.args.pattern.now in
-    let v = c.in-Some-move-at.chosen in
+    let v = c.in-Some-move_at.chosen in
     let from = c.in-Some.from in
     let h = held c.args.stock.now in
-    let kind : c.kind-at.result ≡ met (points_of p) from =
-    c.kind-at.ensures ∙ ap (λ (k : ℕ). kind_of (slice_get (points_of p) k)) c.pass-passage.ensures.point in
+    let kind : c.kind_at.result ≡ met (points_of p) from =
+    c.kind_at.ensures ∙ ap (λ (k : ℕ). kind_of (slice_get (points_of p) k)) c.pass-passage.ensures.point in
     let moves : Moves c.args.manner (met (points_of p) from) c.args.item v =
-    subst (λ (q : Kind). Moves c.args.manner q c.args.item v) kind c.in-Some-move-at.ensures in
-    let more : length c.as-slice-more.result.now ≡ length (tail_bytes v.tail) = ap length c.as-slice-more.ensures in
+    subst (λ (q : Kind). Moves c.args.manner q c.args.item v) kind c.in-Some-move_at.ensures in
+    let more : length c.as_slice-more.result.now ≡ length (tail_bytes v.tail) = ap length c.as_slice-more.ensures in
     let l : stock_bytes < length h + (length (passed (points_of p) (text_of p) from) + length (tail_bytes v.tail)) =
     elim c.then-long-room.branch [
       | then-long-room-via-then-long-room w ↦ omega (arith, w.if-long-room.true, c.pass-passage.ensures.long, c.len-room.ensures)
@@ -34,13 +34,13 @@ returns-then-long-room c =
 pub returns : goal.returns
 returns c =
     let p = c.args.pattern.now in
-    let v = c.in-Some-move-at.chosen in
+    let v = c.in-Some-move_at.chosen in
     let from = c.in-Some.from in
-    let kind : c.kind-at.result ≡ met (points_of p) from =
-    c.kind-at.ensures ∙ ap (λ (k : ℕ). kind_of (slice_get (points_of p) k)) c.pass-passage.ensures.point in
+    let kind : c.kind_at.result ≡ met (points_of p) from =
+    c.kind_at.ensures ∙ ap (λ (k : ℕ). kind_of (slice_get (points_of p) k)) c.pass-passage.ensures.point in
     let moves : Moves c.args.manner (met (points_of p) from) c.args.item v =
-    subst (λ (q : Kind). Moves c.args.manner q c.args.item v) kind c.in-Some-move-at.ensures in
-    let more : length c.as-slice-more.result.now ≡ length (tail_bytes v.tail) = ap length c.as-slice-more.ensures in
+    subst (λ (q : Kind). Moves c.args.manner q c.args.item v) kind c.in-Some-move_at.ensures in
+    let more : length c.as_slice-more.result.now ≡ length (tail_bytes v.tail) = ap length c.as_slice-more.ensures in
     plans_here p c.args.manner c.args.point from (held c.args.stock.now) c.args.item v c.in-Some.is moves
     (omega (
       arith,
