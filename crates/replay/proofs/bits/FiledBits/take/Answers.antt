@@ -19,7 +19,7 @@ returns c =
     let s = c.args.self.now in
     record { gives = next_bit s.left s.current s.next s.bytes.now (omega arith); keeps = refl; all = λ e. never_none e }
 
-pub invariant-of-self : goal.invariant-of-self
-invariant-of-self c =
+pub invariant_of-self : goal.invariant_of-self
+invariant_of-self c =
     let s = c.args.self.now in
-    (bytes_more s.bytes.now s.next _ s.read c.if-next-self.false refl (omega arith), tt)
+    record { read = bytes_more s.bytes.now s.next _ s.read c.if-next-self.false refl (omega arith) }
