@@ -1,23 +1,22 @@
 -- A draft before and after each of its operations.
-use Rattle.std.proofs.Common.{◌≡◌, ℕ, suc, ◌+◌, ◌-◌, ◌<◌, ◌≤◌, max, Bool, true, false, cond, ◌&&◌, leb, List, [], ◌∷◌, ◌++◌, map, length, get_or, take, drop, set, Ok, Err, Result, sym, refl, ap, ◌∙◌, subst, append_assoc, arith, length-append, le-leb}
+use Rattle.std.proofs.Common.{◌≡◌, ℕ, ◌+◌, ◌-◌, ◌<◌, ◌≤◌, Bool, true, false, cond, ◌&&◌, leb, List, [], ◌∷◌, ◌++◌, map, length, get_or, take, drop, set, Ok, Err, sym, refl, ap, ◌∙◌, subst, append_assoc, arith, length-append, le-leb}
 use borrow.Author.Tests.{lt-leb}
 use Rattle.std.proofs.lemmas.Bool.{and_left, and_right}
 use borrow.Rule.Slice.PartMut.{put_mid}
 use Rattle.std.proofs.lemmas.List.{append-nil, take_more_set, length_push}
-use Rattle.fault.specs.declared.cause.Cause.{Cause}
-use Rattle.fault.specs.declared.cause.Cause.TheVariants.{UnreadableNumber, Malformed, PatternLimit}
+use Rattle.fault.specs.declared.cause.Cause.TheVariants.{PatternLimit}
 use Rattle.fault.specs.declared.refusal.Fault.{Fault}
 use Rattle.pattern.specs.declared.point.Point.{Point}
-use Rattle.pattern.specs.declared.point.Point.TheVariants.{Read, Text, Choice, Star}
+use Rattle.pattern.specs.declared.point.Point.TheVariants.{Choice, Star}
 use Rattle.pattern.specs.declared.pattern.draft.Part.{Part}
 use Rattle.pattern.specs.declared.pattern.draft.Draft.{Draft}
 use Rattle.pattern.specs.Limits.{most_points, most_text, most_standing}
-use Rattle.pattern.specs.Expressions.{Expr, empty, read, text, seq, alt, star, size, texts, standing}
+use Rattle.pattern.specs.Expressions.{Expr, seq, alt, star, size, texts, standing}
 use Rattle.pattern.specs.Points.{entry, table, open_end, known, fill, ComesFrom}
-use Rattle.pattern.specs.Files.{total, bytes, within, Effect, refused, leaves, limited}
-use Rattle.pattern.specs.Drafts.{laid, spot, parts, Stood, Holds, Done}
-use Rattle.pattern.proofs.Fronts.{front_length, get_or_last, get_or_prior, take_set_at, take_mid}
-use Rattle.pattern.proofs.Tables.{known_point, known_entry, fill_table, length_table}
+use Rattle.pattern.specs.Files.{total, bytes, within, refused, leaves, limited}
+use Rattle.pattern.specs.Drafts.{laid, spot, parts, Holds, Done}
+use Rattle.pattern.proofs.Fronts.{get_or_last, get_or_prior, take_set_at, take_mid}
+use Rattle.pattern.proofs.Tables.{known_entry, fill_table, length_table}
 
 within_from : (a b c : Bool) → a ≡ true → b ≡ true → c ≡ true → (a && (b && c)) ≡ true
 within_from a b c p q r = ap (λ x. x && (b && c)) p ∙ ap (λ x. x && c) q ∙ r

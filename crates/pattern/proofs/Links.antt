@@ -11,7 +11,7 @@ use Rattle.pattern.specs.declared.point.Point.{Point}
 use Rattle.pattern.specs.declared.point.Point.TheVariants.{Read, Text, Choice, Star}
 use Rattle.pattern.specs.declared.pattern.Pattern.{Pattern}
 use Rattle.pattern.specs.Expressions.{Expr, empty, read, text, seq, alt, star, size, texts}
-use Rattle.pattern.specs.Points.{entry, table, ComesFrom}
+use Rattle.pattern.specs.Points.{entry, table}
 use Rattle.pattern.specs.Patterns.{points_of, text_of, own_bytes, bytes_at, Leads, LeadsIf}
 use Rattle.pattern.proofs.Tables.{length_table}
 

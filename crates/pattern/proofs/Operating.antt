@@ -2,7 +2,7 @@
 use Rattle.std.proofs.Common.{◌≡◌, ℕ, zero, suc, pred, ◌+◌, ◌-◌, ◌<◌, ◌≤◌, Bool, true, false, cond, leb, List, [], ◌∷◌, length, take, drop, is_ok, Some, None, Ok, Err, Option, Result, sym, refl, ap, ◌∙◌, subst, arith, le-leb, leb-true}
 use borrow.Author.Tests.{lt-leb}
 use Rattle.std.proofs.lemmas.List.{drop-drop, drop_more, length-drop}
-use Rattle.fault.specs.declared.cause.Cause.TheVariants.{UnreadableNumber, Malformed, PatternLimit}
+use Rattle.fault.specs.declared.cause.Cause.TheVariants.{Malformed, PatternLimit}
 use Rattle.fault.specs.declared.refusal.Fault.{Fault}
 use Rattle.pattern.specs.declared.number.Number.{Number}
 use Rattle.pattern.specs.declared.operation.Operation.{Operation}

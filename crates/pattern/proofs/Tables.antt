@@ -1,8 +1,7 @@
 -- The table of an expression as its follower becomes known.
-use Rattle.std.proofs.Common.{◌≡◌, ℕ, suc, ◌+◌, ◌-◌, ◌<◌, ◌≤◌, Bool, true, false, cond, eqb, List, [], ◌∷◌, ◌++◌, map, length, get_or, take, drop, set, sym, refl, ap, ◌∙◌, subst, arith, length-append, ne_eqb}
+use Rattle.std.proofs.Common.{◌≡◌, ℕ, ◌+◌, ◌<◌, ◌≤◌, cond, ◌++◌, map, length, refl, ap, ◌∙◌, arith, length-append, ne_eqb}
 use Rattle.std.proofs.lemmas.List.{map-append, map_push, length_push}
-use Rattle.pattern.specs.declared.point.Point.{Point}
-use Rattle.pattern.specs.declared.point.Point.TheVariants.{Read, Text, Choice, Star}
+use Rattle.pattern.specs.declared.point.Point.TheVariants.{Choice, Star}
 use Rattle.pattern.specs.Limits.{most_points}
 use Rattle.pattern.specs.Expressions.{Expr, empty, read, text, seq, alt, star, size, texts}
 use Rattle.pattern.specs.Points.{entry, table, open_end, known, fill}

@@ -1,13 +1,13 @@
 -- Decoding what an expression writes.
-use Rattle.std.proofs.Common.{◌≡◌, ℕ, zero, suc, pred, ◌+◌, ◌-◌, ◌*◌, ◌/◌, ◌%◌, ◌<◌, ◌≤◌, max, Bool, true, false, cond, ltb, leb, ◌⊎◌, List, [], ◌∷◌, ◌++◌, length, take, drop, Some, None, Ok, Err, Option, Result, sym, refl, ap, ◌∙◌, subst, inl, inr, append_assoc, arith, length-append, le-ltb, lt-ltb, le-leb}
+use Rattle.std.proofs.Common.{◌≡◌, ℕ, zero, suc, pred, ◌+◌, ◌-◌, ◌*◌, ◌/◌, ◌%◌, ◌<◌, ◌≤◌, max, Bool, true, false, cond, List, [], ◌∷◌, ◌++◌, length, take, drop, Some, None, Result, sym, refl, ap, ◌∙◌, subst, inl, inr, append_assoc, arith, length-append, le-ltb, lt-ltb, le-leb}
 use Rattle.std.proofs.lemmas.Bool.{cases_lt}
 use Rattle.std.proofs.lemmas.List.{append-nil, take_at, drop_at}
 use Rattle.fault.specs.declared.cause.Cause.TheVariants.{Malformed, PatternLimit}
 use Rattle.fault.specs.declared.refusal.Fault.{Fault}
-use Rattle.pattern.specs.Limits.{most_points, most_text, most_standing, most_file, largest_number}
+use Rattle.pattern.specs.Limits.{most_points, most_text, most_standing, largest_number}
 use Rattle.pattern.specs.Numbers.{Long, under, groups, small, number, grouped, shortest}
-use Rattle.pattern.specs.Expressions.{Expr, empty, read, text, seq, alt, star, size, texts, standing, Writable, read_number, written, Within}
-use Rattle.pattern.specs.Files.{total, bytes, within, Effect, refused, leaves, limited, given, reading, texting, effect, onward, operations, decoded}
+use Rattle.pattern.specs.Expressions.{Expr, empty, read, text, seq, alt, star, size, texts, standing, Writable, read_number, written}
+use Rattle.pattern.specs.Files.{total, bytes, within, refused, leaves, limited, given, reading, texting, effect, onward, operations}
 use Rattle.pattern.specs.Laws.{ReadsBack}
 use Rattle.pattern.proofs.Numerals.{small_in}
 use Rattle.pattern.proofs.Drafting.{within_limits}

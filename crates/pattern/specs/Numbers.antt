@@ -1,5 +1,5 @@
 -- Numbers in groups of seven bits, lowest group first. Assumes nothing.
-use Rattle.std.specs.Prelude.{ℕ, zero, suc, ◌+◌, ◌*◌, ◌/◌, ◌%◌, Bool, cond, List, [], ◌∷◌, Some, None, Option, nat_le, nat_lt}
+use Rattle.std.specs.Prelude.{ℕ, zero, suc, ◌+◌, ◌*◌, ◌/◌, ◌%◌, cond, List, [], ◌∷◌, Some, None, Option, nat_le, nat_lt}
 use Rattle.pattern.specs.declared.number.Number.{Number}
 use Rattle.pattern.specs.Limits.{largest_number}
 

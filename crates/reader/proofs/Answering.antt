@@ -1,5 +1,5 @@
 -- The answers to one symbol, for every alphabet that says the same of it.
-use Rattle.std.proofs.Common.{◌≡◌, ℕ, ◌+◌, ◌<◌, ◌≤◌, Bool, true, false, ltb, ◌≢◌, List, [], ◌∷◌, ◌++◌, length, Ok, Err, sym, refl, ap, ◌∙◌, subst, arith}
+use Rattle.std.proofs.Common.{◌≡◌, ℕ, ◌+◌, ◌<◌, ◌≤◌, Bool, true, false, ltb, ◌≢◌, List, [], length, Ok, Err, sym, refl, ◌∙◌, arith}
 use Rattle.std.proofs.lemmas.Bool.{ltb-true, ltb-false}
 use Rattle.alphabet.specs.Meaning.{Meaning}
 use Rattle.pattern.specs.declared.pattern.Pattern.{Pattern}
@@ -7,7 +7,7 @@ use Rattle.pattern.specs.declared.step.Step.{Step}
 use Rattle.point_set.specs.Members.{point_count}
 use Rattle.walk.specs.Graphs.{Points, none}
 use Rattle.walk.specs.Codes.{Code}
-use Rattle.walk.specs.Search.{Reached, In, after, Sweep, done, taken, dropped}
+use Rattle.walk.specs.Search.{Reached, In, Sweep, done, taken, dropped}
 use Rattle.tree.specs.declared.paths.PathTree.{PathTree}
 use Rattle.tree.specs.Limits.{countable, capacity}
 use Rattle.tree.specs.Held.{Start, room}
@@ -19,8 +19,8 @@ use Rattle.reader.specs.Marks.{graph, marked}
 use Rattle.reader.specs.Spread.{listed}
 use Rattle.reader.specs.Sweeping.{LeadsOn}
 use Rattle.reader.specs.Gather.{Gathered, Parted}
-use Rattle.reader.specs.Seen.{Seen, see, every}
-use Rattle.reader.specs.Reading.{step_space, Standing, Cleared, StateOf, Advances}
+use Rattle.reader.specs.Seen.{see, every}
+use Rattle.reader.specs.Reading.{step_space, Cleared, StateOf, Advances}
 use Rattle.reader.proofs.Reading.{Swept, swept_from, Turned, turned, turn, some_walk, no_walk, line_some, dead_now, full_now, read_now}
 
 -- whether a count is too big

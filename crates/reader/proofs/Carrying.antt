@@ -1,23 +1,21 @@
 -- One live walk goes on, or is let go.
-use Rattle.std.proofs.Common.{◌≡◌, ℕ, zero, suc, ◌+◌, ◌-◌, ◌<◌, ◌≤◌, Bool, true, false, cond, ◌≢◌, ◌⊎◌, List, [], ◌∷◌, ◌++◌, length, get_or, take, drop, set, sym, refl, ap, ◌∙◌, subst, inl, inr, ⊎_elim, append_assoc, append-nil, arith, length-append, length-take-le, drop-cons, get_or-take}
-use Rattle.std.proofs.lemmas.Bool.{cases_eq}
-use Rattle.walk.specs.Graphs.{Points}
+use Rattle.std.proofs.Common.{◌≡◌, ℕ, suc, ◌+◌, ◌<◌, ◌≤◌, ◌≢◌, List, [], ◌∷◌, ◌++◌, length, get_or, drop, sym, refl, ap, ◌∙◌, subst, inl, inr, ⊎_elim, append_assoc, append-nil, arith, length-take-le, drop-cons, get_or-take}
 use Rattle.walk.specs.Codes.{Code, Earlier}
-use Rattle.walk.specs.Search.{Reached, In, after, Ordered, Search}
+use Rattle.walk.specs.Search.{Reached, In, after, Ordered}
 use Rattle.walk.proofs.Order.{in_left, in_right, in_either, in_after, in_before, ordered_after, ordered_append, earlier_irrefl, earlier_grows, earlier_longer, longer_earlier}
 use Rattle.walk.proofs.Stretches.{search_ordered}
 use Rattle.tree.specs.declared.paths.PathTree.{PathTree}
 use Rattle.pattern.specs.declared.pattern.Pattern.{Pattern}
 use Rattle.point_set.specs.Members.{point_count}
-use Rattle.tree.specs.Held.{Held, Holder, Addable, Added, Released, room}
+use Rattle.tree.specs.Held.{Held, Holder, Addable, Added, Released}
 use Rattle.tree.proofs.Using.{addable_leaf}
 use Rattle.tree.proofs.Holding.{held_same, held_once}
 use Rattle.reader.specs.declared.state.Walk.{Walk}
 use Rattle.reader.specs.declared.state.Line.{Line}
 use Rattle.reader.specs.declared.state.Core.{Core}
-use Rattle.reader.specs.Marks.{graph, marked, unmarked}
+use Rattle.reader.specs.Marks.{graph}
 use Rattle.reader.specs.Spread.{listed, Under, Ready, Spread}
-use Rattle.reader.specs.State.{State, Spare, Midway, Carried, Carries, LetsGo}
+use Rattle.reader.specs.State.{State, Spare, Carried}
 use Rattle.reader.proofs.Basics.{longer, under_moves, under_append, under_after}
 use Rattle.reader.proofs.Spreading.{planted}
 

@@ -1,5 +1,5 @@
 -- The walk on the end point.
-use Rattle.std.proofs.Common.{◌≡◌, ℕ, zero, suc, ◌+◌, ◌<◌, ◌≤◌, Bool, true, false, ◌≢◌, ◌⊎◌, List, [], ◌∷◌, ◌++◌, length, sym, refl, ap, ◌∙◌, subst, inl, inr, ⊎_elim, append_assoc, append-nil, arith}
+use Rattle.std.proofs.Common.{◌≡◌, ℕ, ◌+◌, ◌<◌, ◌≤◌, true, false, ◌≢◌, List, [], ◌∷◌, ◌++◌, length, sym, refl, ap, ◌∙◌, subst, inl, inr, append_assoc, append-nil, arith}
 use mathlib.Core.List.{append_cancel_left}
 use Rattle.alphabet.specs.Meaning.{Meaning}
 use Rattle.pattern.specs.declared.pattern.Pattern.{Pattern}
@@ -19,11 +19,11 @@ use Rattle.reader.specs.Spread.{listed, Under, On}
 use Rattle.reader.specs.State.{State, Midway, LetsGo}
 use Rattle.reader.specs.Gather.{Gathered, Parted}
 use Rattle.reader.specs.Reading.{step_space, Standing, LiveAt, StateOf}
-use Rattle.reader.specs.Ending.{Picked, nothing, picked, passed, Picking, SomePicking, PicksOn, Keeps, Emptied, end_of, Ended, Ends}
+use Rattle.reader.specs.Ending.{Picked, nothing, picked, passed, Picking, SomePicking, PicksOn, Keeps, Emptied, end_of, Ends}
 use Rattle.reader.proofs.Basics.{under_append, under_slot, under_on, on_under}
 use Rattle.reader.proofs.Reading.{state_first, line_over, all_listed}
 use Rattle.reader.proofs.Answering.{spacious}
-use Rattle.reader.proofs.Carrying.{First, first, walk_at, point_is, now_under}
+use Rattle.reader.proofs.Carrying.{first, walk_at, point_is, now_under}
 use Rattle.reader.proofs.Spreading.{lined}
 use Rattle.reader.proofs.Sweeping.{more_done}
 

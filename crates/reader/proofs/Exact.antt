@@ -1,5 +1,5 @@
 -- Each refusal is given exactly where it is due.
-use Rattle.std.proofs.Common.{◌≡◌, ℕ, ◌+◌, ◌<◌, ◌≤◌, List, [], ◌∷◌, ◌++◌, length, Ok, Err, Result, refl, ap, subst, arith, length-append}
+use Rattle.std.proofs.Common.{◌≡◌, ℕ, List, [], ◌∷◌, ◌++◌, length, Ok, Err, Result, refl, ap, subst, arith, length-append}
 use Rattle.alphabet.specs.Meaning.{Meaning}
 use Rattle.pattern.specs.declared.pattern.Pattern.{Pattern}
 use Rattle.pattern.specs.Patterns.{entry_of}
@@ -10,7 +10,7 @@ use Rattle.reader.specs.declared.state.Core.{Core}
 use Rattle.reader.specs.declared.stop.Stop.{Stop}
 use Rattle.reader.specs.declared.stop.Stop.TheVariants.{Dead, TreeFull}
 use Rattle.reader.specs.Marks.{graph}
-use Rattle.reader.specs.Reading.{LiveAt, SharedAt, NoLiveAt, CountsAt, StateOf, Answered, TooBig, Exact, Advances, Exactly}
+use Rattle.reader.specs.Reading.{SharedAt, NoLiveAt, CountsAt, Answered, Exact, Advances, Exactly}
 
 abbrev Answer : Type 0
 Answer = Result (Unit {0}) Stop

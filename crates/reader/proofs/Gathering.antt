@@ -1,9 +1,9 @@
 -- Items taken off the held paths, one after another.
-use Rattle.std.proofs.Common.{◌≡◌, ℕ, ◌+◌, ◌<◌, ◌≤◌, true, List, [], ◌∷◌, ◌++◌, reverse, sym, refl, ap, ◌∙◌, subst, append_assoc, arith}
+use Rattle.std.proofs.Common.{◌≡◌, ℕ, true, [], ◌∷◌, ◌++◌, reverse, sym, ap, ◌∙◌, subst, append_assoc, arith}
 use Rattle.tree.specs.declared.table.Table.{Table}
 use Rattle.tree.specs.declared.paths.PathTree.{PathTree}
 use Rattle.tree.specs.Sound.{held_of, Up}
-use Rattle.tree.specs.Held.{Held, Holder, Shares, Same, Taken, NoneShared, room}
+use Rattle.tree.specs.Held.{Held, Same, Taken, NoneShared, room}
 use Rattle.walk.specs.Codes.{Code}
 use Rattle.reader.specs.Gather.{Gathered, Parted}
 

@@ -1,24 +1,23 @@
 -- A reader's core stays the state of some reading; and what its calls tell.
-use Rattle.std.proofs.Common.{◌≡◌, ℕ, zero, suc, ◌+◌, ◌<◌, ◌≤◌, Bool, true, false, ◌⊎◌, ◌↔◌, List, [], ◌∷◌, ◌++◌, set, replicate, Some, None, Ok, Err, Option, Result, sym, refl, ap, ◌∙◌, subst, inl, inr, append_assoc, arith}
+use Rattle.std.proofs.Common.{◌≡◌, ℕ, ◌<◌, Bool, true, false, ◌↔◌, List, [], ◌∷◌, ◌++◌, set, replicate, Some, None, Ok, Err, Option, Result, sym, refl, ap, ◌∙◌, subst, inl, inr, append_assoc, arith}
 use mathlib.Core.Logic.{∥∥₁_map}
 use Rattle.alphabet.specs.Meaning.{Meaning}
 use Rattle.alphabet.specs.Items.{end_mark}
 use Rattle.pattern.specs.declared.pattern.Pattern.{Pattern}
 use Rattle.point_set.specs.declared.set.PointSet.{PointSet}
 use Rattle.walk.specs.Codes.{Code}
-use Rattle.walk.specs.Search.{Reached, In, after}
+use Rattle.walk.specs.Search.{after}
 use Rattle.point_set.specs.Members.{members, point_count}
 use Rattle.walk.specs.Graphs.{Points, add}
 use Rattle.walk.proofs.Order.{in_after, in_before, add_same, add_keeps, add_cases, never_both}
-use Rattle.tree.specs.declared.paths.PathTree.{PathTree}
 use Rattle.reader.specs.declared.state.Walk.{Walk}
 use Rattle.reader.specs.declared.state.Core.{Core}
 use Rattle.reader.specs.declared.stop.Stop.{Stop}
 use Rattle.reader.specs.Marks.{marked}
-use Rattle.reader.specs.Spread.{listed, Under, On}
-use Rattle.reader.specs.Reading.{LiveAt, StateOf, Advances}
+use Rattle.reader.specs.Spread.{listed, On}
+use Rattle.reader.specs.Reading.{Advances}
 use Rattle.reader.specs.Ending.{end_of, Ends}
-use Rattle.reader.specs.Calls.{refusal_of, Finished, Finishes, ShowsLive}
+use Rattle.reader.specs.Calls.{refusal_of, Finishes, ShowsLive}
 use Rattle.reader.specs.Seen.{Seen, every, SomeReading}
 use Rattle.reader.proofs.Basics.{marks_more, no_marks, under_on, on_under, on_split}
 use Rattle.reader.proofs.Reading.{all_listed}

@@ -1,25 +1,23 @@
 -- A pattern has a walk of no symbols.
-use Rattle.std.proofs.Common.{◌≡◌, ℕ, zero, suc, ◌+◌, ◌<◌, ◌≤◌, max, Bool, true, List, [], ◌∷◌, ◌++◌, Some, None, Option, sym, refl, ap, ◌∙◌, subst, inl, arith}
+use Rattle.std.proofs.Common.{◌≡◌, ℕ, zero, suc, ◌+◌, ◌<◌, true, List, [], ◌∷◌, Some, sym, refl, subst, inl, arith}
 use mathlib.Core.Logic.{∥∥₁_elim}
 use mathlib.Core.HLevel.{⊥_prop}
-use Rattle.std.specs.List.{slice_get}
 use Rattle.alphabet.specs.Meaning.{Meaning}
-use Rattle.pattern.specs.Expressions.{Expr, size}
-use Rattle.pattern.specs.Points.{points, start, step_at, step_of, ComesFrom}
-use Rattle.pattern.specs.Patterns.{points_of, entry_of}
+use Rattle.pattern.specs.Expressions.{Expr}
+use Rattle.pattern.specs.Points.{points, start, step_at, step_of}
+use Rattle.pattern.specs.Patterns.{entry_of}
 use Rattle.pattern.specs.declared.pattern.Pattern.{Pattern}
 use Rattle.pattern.specs.declared.point.Point.{Point}
 use Rattle.pattern.specs.declared.point.Point.TheVariants as point
-use Rattle.pattern.specs.declared.step.Step.{Step}
-use Rattle.pattern.specs.declared.step.Step.TheVariants.{Read, Pass, Fork, End}
+use Rattle.pattern.specs.declared.step.Step.TheVariants.{Read}
 use Rattle.walk.specs.Graphs.{steps, ClassesBelow}
 use Rattle.walk.specs.Codes.{Code}
-use Rattle.walk.specs.Walks.{Live, NoLive, Dead}
+use Rattle.walk.specs.Walks.{Live, NoLive}
 use Rattle.walk.specs.Search.{Reached, In, after}
 use Rattle.walk.proofs.Routes.{dead_iff, some_accepted}
 use Rattle.reader.specs.declared.state.Core.{Core}
 use Rattle.reader.specs.Marks.{graph}
-use Rattle.reader.specs.Reading.{Opened, StateOf, NoLiveAt}
+use Rattle.reader.specs.Reading.{Opened, StateOf}
 use Rattle.reader.proofs.Reading.{all_listed}
 use Rattle.reader.proofs.Starting.{lists_start, state_of}
 

@@ -1,8 +1,8 @@
 -- That a core is fit comes out of a truncation, as a reader's type has it.
-use Rattle.std.proofs.Common.{◌≡◌, ℕ, zero, suc, ◌+◌, ◌<◌, ◌≤◌, Bool, true, false, ◌≢◌, ◌⊎◌, List, [], ◌∷◌, ◌++◌, length, sym, refl, ap, ◌∙◌, subst, inl, inr, ⊎_elim, arith}
+use Rattle.std.proofs.Common.{◌≡◌, ℕ, true, ◌≢◌, ◌⊎◌, List, [], ◌∷◌, length, sym, refl, ap, ◌∙◌, subst, inl, inr, ⊎_elim, arith}
 use native.Mathlib.Nat.{ℕ_set}
 use mathlib.Core.Logic.{∥∥₁_elim, ∥∥₁_map}
-use mathlib.Core.HLevel.{⊥_prop, Π_prop, ×_prop, Unit-prop}
+use mathlib.Core.HLevel.{⊥_prop, Π_prop, ×_prop}
 use Rattle.std.proofs.lemmas.Bool.{cases_eq}
 use Rattle.alphabet.specs.Items.{first_branch, second_branch}
 use Rattle.pattern.specs.declared.pattern.Pattern.{Pattern}
@@ -11,13 +11,13 @@ use Rattle.walk.specs.Codes.{Code, Earlier}
 use Rattle.walk.specs.Search.{Reached, In, Ordered}
 use Rattle.tree.specs.declared.paths.PathTree.{PathTree}
 use Rattle.tree.specs.Sound.{held_of}
-use Rattle.tree.specs.Held.{Held, Holder, room}
+use Rattle.tree.specs.Held.{room}
 use Rattle.tree.proofs.Holding.{held_same, held_path}
 use Rattle.tree.proofs.Out.{bool_out, eq_out, le_out}
 use Rattle.reader.specs.declared.state.Walk.{Walk}
 use Rattle.reader.specs.declared.state.Core.{Core}
 use Rattle.reader.specs.Spread.{listed, Under}
-use Rattle.reader.specs.Reading.{step_space, Standing, Fit}
+use Rattle.reader.specs.Reading.{step_space, Fit}
 use Rattle.reader.specs.Seen.{every, SomeReading}
 use Rattle.reader.proofs.Answering.{spacious}
 

@@ -1,5 +1,5 @@
 -- What a core between symbols says of the live walks.
-use Rattle.std.proofs.Common.{◌≡◌, ℕ, zero, suc, ◌+◌, ◌<◌, ◌≤◌, Bool, true, false, ◌≢◌, ◌⊎◌, ◌↔◌, List, [], ◌∷◌, ◌++◌, length, take, drop, replicate, sym, refl, ap, ◌∙◌, subst, inl, inr, ⊎_elim, append_assoc, append-nil, arith, length-take-le}
+use Rattle.std.proofs.Common.{◌≡◌, ℕ, ◌+◌, ◌<◌, ◌≤◌, ◌≢◌, List, [], ◌∷◌, ◌++◌, length, take, drop, sym, refl, ap, ◌∙◌, subst, inl, inr, ⊎_elim, append-nil, arith, length-take-le}
 use mathlib.Core.List.{append_cancel_left, Memᴰ}
 use Rattle.std.proofs.lemmas.List.{drop_all}
 use Rattle.alphabet.specs.Meaning.{Meaning}
@@ -7,8 +7,7 @@ use Rattle.pattern.specs.declared.pattern.Pattern.{Pattern}
 use Rattle.pattern.specs.Patterns.{entry_of}
 use Rattle.point_set.specs.Members.{point_count}
 use Rattle.walk.specs.Graphs.{Points, none}
-use Rattle.walk.specs.Codes.{Code, Begins}
-use Rattle.walk.specs.Walks.{Live}
+use Rattle.walk.specs.Codes.{Code}
 use Rattle.walk.specs.Search.{Reached, In, after, Ordered, Sweep, done}
 use Rattle.walk.specs.Tree.{Member, Once, Node}
 use Rattle.walk.proofs.Order.{in_after, in_before}
@@ -20,12 +19,12 @@ use Rattle.tree.specs.Prefixes.{Once as Once-there, Counts as Counted}
 use Rattle.reader.specs.declared.state.Walk.{Walk}
 use Rattle.reader.specs.declared.state.Line.{Line}
 use Rattle.reader.specs.declared.state.Core.{Core}
-use Rattle.reader.specs.Marks.{graph, marked, unmarked}
+use Rattle.reader.specs.Marks.{graph, marked}
 use Rattle.reader.specs.Spread.{listed, Under}
-use Rattle.reader.specs.State.{State, Spare}
+use Rattle.reader.specs.State.{State}
 use Rattle.reader.specs.Sweeping.{Partway, SomeWay, LeadsOn}
 use Rattle.reader.specs.Gather.{Gathered, Parted}
-use Rattle.reader.specs.Reading.{step_space, Standing, Fit, Cleared, LiveAt, SharedAt, NoLiveAt, CountsAt, ListsLive, StateOf, TooBig, Went}
+use Rattle.reader.specs.Reading.{step_space, Standing, Fit, Cleared, LiveAt, SharedAt, NoLiveAt, CountsAt, ListsLive, TooBig, Went}
 use Rattle.reader.proofs.Basics.{no_marks, unmarked_bound, under_length, under_slot}
 use Rattle.reader.proofs.Shifting.{after_after, ordered_before, sweep_after, begins_compared, rest_of}
 

@@ -1,12 +1,12 @@
 -- Laws of lists of walks whose codes begin with the same items.
-use Rattle.std.proofs.Common.{◌≡◌, ℕ, zero, suc, ◌+◌, ◌-◌, ◌<◌, ◌≤◌, Bool, true, false, ◌≢◌, ◌⊎◌, List, [], ◌∷◌, ◌++◌, sym, refl, ap, ◌∙◌, subst, inl, inr, ⊎_elim, append_assoc, append-nil, arith}
+use Rattle.std.proofs.Common.{◌≡◌, ℕ, ◌⊎◌, List, [], ◌∷◌, ◌++◌, sym, refl, ap, ◌∙◌, subst, inl, inr, append_assoc}
 use mathlib.Core.List.{append_cancel_left}
 use Rattle.alphabet.specs.Meaning.{Meaning}
 use Rattle.alphabet.specs.Items.{read_item}
 use Rattle.pattern.specs.declared.step.Step.{Step}
-use Rattle.walk.specs.Graphs.{Points, none}
-use Rattle.walk.specs.Codes.{Code, Earlier, Begins}
-use Rattle.walk.specs.Search.{Reached, In, after, Ordered, Search, Sweep, done, taken, dropped}
+use Rattle.walk.specs.Graphs.{Points}
+use Rattle.walk.specs.Codes.{Code, Begins}
+use Rattle.walk.specs.Search.{Reached, after, Ordered, Sweep, done, taken, dropped}
 use Rattle.walk.proofs.Order.{in_after, earlier_cancel}
 use Rattle.walk.proofs.Sharing.{begins_nil, begins_cons, begins_tail, not_begins}
 

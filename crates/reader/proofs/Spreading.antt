@@ -1,17 +1,16 @@
 -- A search that writes its walks into the tree as it goes.
-use Rattle.std.proofs.Common.{◌≡◌, ℕ, zero, suc, ◌+◌, ◌<◌, ◌≤◌, Bool, true, false, ◌≢◌, ◌⊎◌, List, [], ◌∷◌, ◌++◌, length, get_or, set, sym, refl, ap, ◌∙◌, subst, inl, inr, ⊎_elim, append_assoc, append-nil, arith, length-append}
+use Rattle.std.proofs.Common.{◌≡◌, ℕ, ◌+◌, ◌<◌, true, false, ◌≢◌, ◌⊎◌, List, [], ◌∷◌, ◌++◌, length, get_or, set, sym, refl, ap, ◌∙◌, subst, inl, inr, ⊎_elim, append_assoc, append-nil, arith}
 use Rattle.std.proofs.lemmas.Bool.{cases_eq}
 use Rattle.alphabet.specs.Items.{first_branch, second_branch}
 use Rattle.pattern.specs.declared.pattern.Pattern.{Pattern}
-use Rattle.pattern.specs.declared.step.Step.{Step}
-use Rattle.pattern.specs.declared.step.Step.TheVariants.{Read, Pass, Fork, End}
+use Rattle.pattern.specs.declared.step.Step.TheVariants.{Pass, Fork}
 use Rattle.point_set.specs.declared.set.PointSet.{PointSet}
 use Rattle.point_set.specs.Members.{members, point_count}
 use Rattle.walk.specs.Graphs.{Points, rests, add}
 use Rattle.walk.specs.Codes.{Code}
 use Rattle.walk.specs.Search.{Reached, In, after, Search, found, passed, forked}
 use Rattle.walk.specs.Search as theory
-use Rattle.walk.proofs.Order.{in_left, in_right, in_after, in_before}
+use Rattle.walk.proofs.Order.{in_left, in_right, in_after}
 use Rattle.tree.specs.declared.paths.PathTree.{PathTree}
 use Rattle.tree.specs.Held.{Held, Holder, Addable, Added, Released, room}
 use Rattle.tree.proofs.Holding.{held_same}

@@ -1,5 +1,5 @@
 -- The state after no symbol.
-use Rattle.std.proofs.Common.{◌≡◌, ℕ, zero, suc, ◌+◌, ◌-◌, ◌<◌, ◌≤◌, false, ◌≢◌, ◌⊎◌, List, [], ◌∷◌, ◌++◌, length, drop, replicate, sym, refl, ap, ◌∙◌, subst, inl, inr, ⊎_elim, append-nil, arith}
+use Rattle.std.proofs.Common.{◌≡◌, ℕ, ◌+◌, ◌-◌, ◌<◌, ◌≤◌, false, List, [], ◌++◌, length, drop, replicate, sym, ap, ◌∙◌, subst, ⊎_elim, append-nil, arith}
 use lib.ListN.{length-replicate}
 use Rattle.alphabet.specs.Meaning.{Meaning}
 use Rattle.pattern.specs.declared.pattern.Pattern.{Pattern}
@@ -12,19 +12,19 @@ use Rattle.walk.specs.Search.{Reached, In, after, Ordered, Search}
 use Rattle.walk.proofs.Stretches.{search_ordered}
 use Rattle.walk.proofs.Lists.{lists_first}
 use Rattle.tree.specs.declared.paths.PathTree.{PathTree}
-use Rattle.tree.specs.Limits.{countable, capacity, first_slot}
-use Rattle.tree.specs.Held.{Held, New, room}
+use Rattle.tree.specs.Limits.{capacity, first_slot}
+use Rattle.tree.specs.Held.{New, room}
 use Rattle.tree.proofs.Holding.{held_same, counted_starts, room_bound}
 use Rattle.reader.specs.declared.state.Walk.{Walk}
 use Rattle.reader.specs.declared.state.Line.{Line}
 use Rattle.reader.specs.declared.state.Core.{Core}
-use Rattle.reader.specs.Marks.{graph, marked, unmarked}
+use Rattle.reader.specs.Marks.{graph, marked}
 use Rattle.reader.specs.Spread.{listed, Under, Ready, Spread}
 use Rattle.reader.specs.State.{State}
 use Rattle.reader.specs.Gather.{Gathered, Parted}
-use Rattle.reader.specs.Reading.{step_space, Standing, ListsLive, StateOf, Opened}
+use Rattle.reader.specs.Reading.{ListsLive, StateOf, Opened}
 use Rattle.reader.proofs.Basics.{unmarked_bound, no_marks}
-use Rattle.reader.proofs.Reading.{Turned, turned, turn, shared_is, counts_is, lists_from}
+use Rattle.reader.proofs.Reading.{turned, turn, shared_is, counts_is, lists_from}
 
 abbrev pub empty_line : Line
 empty_line = record { walks = replicate point_count (record { point = 0; slot = 0 }); len = 0 }

@@ -1,5 +1,5 @@
 -- One step of a sweep.
-use Rattle.std.proofs.Common.{◌≡◌, ℕ, zero, suc, ◌+◌, ◌<◌, ◌≤◌, Bool, true, false, List, [], ◌∷◌, ◌++◌, length, drop, Some, None, sym, refl, ap, ◌∙◌, subst, append_assoc, append-nil, arith}
+use Rattle.std.proofs.Common.{◌≡◌, ℕ, suc, ◌+◌, ◌<◌, ◌≤◌, List, [], ◌∷◌, ◌++◌, length, Some, None, sym, ap, ◌∙◌, subst, append_assoc, append-nil, arith}
 use Rattle.alphabet.specs.Meaning.{Meaning}
 use Rattle.alphabet.specs.Items.{read_item}
 use Rattle.pattern.specs.declared.pattern.Pattern.{Pattern}
@@ -8,15 +8,15 @@ use Rattle.pattern.specs.declared.step.Step.TheVariants.{Read}
 use Rattle.point_set.specs.declared.set.PointSet.{PointSet}
 use Rattle.walk.specs.Graphs.{Points, none}
 use Rattle.walk.specs.Codes.{Code}
-use Rattle.walk.specs.Search.{Reached, In, after, Ordered, Search, Sweep, done, taken, dropped}
+use Rattle.walk.specs.Search.{Reached, after, Sweep, done, taken, dropped}
 use Rattle.tree.specs.Held.{room}
 use Rattle.reader.specs.declared.state.Line.{Line}
 use Rattle.reader.specs.declared.state.Core.{Core}
 use Rattle.reader.specs.declared.state.Onward.{Onward}
 use Rattle.reader.specs.Marks.{graph, marked, unmarked}
-use Rattle.reader.specs.State.{State, Spare, Midway, MidwaySpare, Carried, Carries, LetsGo}
-use Rattle.reader.specs.Sweeping.{Goes, Partway, SomeWay, LeadsOn}
-use Rattle.reader.proofs.Carrying.{First, first, walk_at, point_is}
+use Rattle.reader.specs.State.{State, Spare, Midway, MidwaySpare, Carries, LetsGo}
+use Rattle.reader.specs.Sweeping.{Goes, SomeWay, LeadsOn}
+use Rattle.reader.proofs.Carrying.{first, walk_at, point_is}
 
 pub sweep_append : {Symbol : Type 0} {L : Meaning Symbol} {at : ℕ → Step} {a : Symbol} {M : Points} {ls rs : List Reached} {N : Points} →
     Sweep L at a M ls rs N → {ks ss : List Reached} {O : Points} → Sweep L at a N ks ss O → Sweep L at a M (ls ++ ks) (rs ++ ss) O

@@ -1,9 +1,8 @@
 -- The end of a reading: the live walk that rests on the end point, if there is one. Assumes nothing.
-use Rattle.std.specs.Prelude.{◌≡◌, ℕ, ◌+◌, ◌<◌, ◌≤◌, Bool, true, false, ◌≢◌, List, [], ◌∷◌, ◌++◌, length}
+use Rattle.std.specs.Prelude.{◌≡◌, ℕ, ◌+◌, ◌≤◌, Bool, true, false, ◌≢◌, List, [], ◌∷◌, ◌++◌, length}
 use Rattle.alphabet.specs.Meaning.{Meaning}
 use Rattle.pattern.specs.declared.pattern.Pattern.{Pattern}
 use Rattle.pattern.specs.Patterns.{points_of}
-use Rattle.point_set.specs.Members.{point_count}
 use Rattle.walk.specs.Codes.{Code}
 use Rattle.walk.specs.Search.{Reached}
 use Rattle.reader.specs.declared.state.Core.{Core}

@@ -1,5 +1,5 @@
 -- What all held paths share, taken off them. Assumes nothing.
-use Rattle.std.specs.Prelude.{◌≡◌, ℕ, ◌≤◌, List, ◌++◌, length, take}
+use Rattle.std.specs.Prelude.{◌≡◌, ℕ, ◌≤◌, ◌++◌, length, take}
 use Rattle.walk.specs.Codes.{Code}
 use Rattle.tree.specs.Limits.{capacity}
 use Rattle.tree.specs.declared.paths.PathTree.{PathTree}

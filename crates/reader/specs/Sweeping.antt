@@ -1,5 +1,5 @@
 -- The sweep over the live walks at a symbol, part way. L is what the alphabet means, a the symbol. Assumes nothing.
-use Rattle.std.specs.Prelude.{◌≡◌, ℕ, true, List, [], ◌∷◌, ◌++◌, length, Some, None, Option, ◌≢◌}
+use Rattle.std.specs.Prelude.{◌≡◌, ℕ, true, List, ◌++◌, length, Some, None, Option, ◌≢◌}
 use Rattle.alphabet.specs.Meaning.{Meaning}
 use Rattle.alphabet.specs.Items.{read_item}
 use Rattle.pattern.specs.declared.pattern.Pattern.{Pattern}

@@ -1,6 +1,6 @@
 -- What the use count and the sum of the children's slots tell of an entry's children.
-use Rattle.std.proofs.Common.{◌≡◌, ℕ, zero, suc, ◌+◌, ◌-◌, ◌<◌, ◌≤◌, Bool, true, false, cond, eqb, ◌≢◌, ◌⊎◌, List, length, get_or, set, sym, refl, ap, ◌∙◌, subst, inl, inr, ⊎_elim, arith, length-set, get_or-set_other, get_or-set_same}
-use Rattle.std.proofs.lemmas.Bool.{cases_eq, cases_lt, eq-eqb, ne_eqb}
+use Rattle.std.proofs.Common.{◌≡◌, ℕ, ◌+◌, ◌-◌, ◌<◌, ◌≤◌, cond, eqb, ◌≢◌, List, length, set, sym, ap, ◌∙◌, subst, ⊎_elim, arith, length-set, get_or-set_other, get_or-set_same}
+use Rattle.std.proofs.lemmas.Bool.{cases_lt, eq-eqb, ne_eqb}
 use Rattle.std.proofs.lemmas.Bool.Decides.{nat_tests}
 use Rattle.tree.specs.declared.table.Entry.{Entry}
 use Rattle.tree.specs.declared.table.Table.{Table}
@@ -8,9 +8,9 @@ use Rattle.tree.specs.declared.table.next.Next.{Next}
 use Rattle.tree.specs.declared.table.next.Next.TheVariants.{Nothing, Only, Several}
 use Rattle.tree.specs.Limits.{ways}
 use Rattle.tree.specs.Records.{at, blank}
-use Rattle.tree.specs.Sound.{total, kid, kid_slot, par, item_of, uses_of, below_of, kids, kid_slots, Sound}
-use Rattle.tree.specs.Next.{Stands, Child, Pair, Leads}
-use Rattle.tree.proofs.Totals.{total_set, within, no_kid, Lone, lone}
+use Rattle.tree.specs.Sound.{total, kid, kid_slot, par, uses_of, below_of, Sound}
+use Rattle.tree.specs.Next.{Stands, Child, Leads}
+use Rattle.tree.proofs.Totals.{total_set, within, no_kid, lone}
 use Rattle.tree.proofs.Loose.{positive, root_used}
 use Rattle.tree.proofs.Counting.{some_kid}
 

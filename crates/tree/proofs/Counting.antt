@@ -1,15 +1,15 @@
 -- A sound tree has one entry for each non-empty beginning of a held path.
-use Rattle.std.proofs.Common.{◌≡◌, ℕ, zero, suc, ◌+◌, ◌-◌, ◌*◌, ◌^◌, ◌<◌, ◌≤◌, Bool, true, false, cond, eqb, ◌≢◌, ◌⊎◌, List, [], ◌∷◌, ◌++◌, length, get_or, set, sym, refl, ap, ◌∙◌, subst, inl, inr, ⊎_elim, append_assoc, le_of_suc-le-suc, not-suc-le-zero, add-zero, add-suc, arith}
+use Rattle.std.proofs.Common.{◌≡◌, ℕ, zero, suc, ◌+◌, ◌<◌, ◌≤◌, true, false, cond, eqb, ◌≢◌, ◌⊎◌, List, [], ◌∷◌, ◌++◌, length, sym, refl, ap, ◌∙◌, subst, inl, inr, ⊎_elim, append_assoc, not-suc-le-zero, add-zero, arith}
 use mathlib.Core.List.{Memᴰ}
-use Rattle.std.proofs.lemmas.Bool.{cases_eq, cases_Bool, eq-eqb, ne_eqb, eqb-true, eqb-false, both_ways}
+use Rattle.std.proofs.lemmas.Bool.{cases_eq, cases_Bool, eq-eqb, ne_eqb, eqb-true}
 use Rattle.std.proofs.lemmas.Bool.Decides.{nat_tests}
 use Rattle.tree.specs.declared.table.Entry.{Entry}
 use Rattle.tree.specs.declared.table.Table.{Table}
-use Rattle.tree.specs.Records.{at, blank}
-use Rattle.tree.specs.Sound.{total, kid, kid_slot, counts_used, par, item_of, uses_of, held_of, kids, Shape, Sound, Up, top, step}
+use Rattle.tree.specs.Records.{at}
+use Rattle.tree.specs.Sound.{total, kid, counts_used, par, item_of, uses_of, held_of, Sound, Up, top, step}
 use Rattle.tree.specs.Prefixes.{Once, Counts, Beginning}
 use Rattle.tree.proofs.Totals.{within}
-use Rattle.tree.proofs.Loose.{positive, in_table, root_used}
+use Rattle.tree.proofs.Loose.{positive, root_used}
 
 -- ---- sums over kid-slots
 abbrev sum_to : (ℕ → ℕ) → ℕ → ℕ

@@ -1,5 +1,5 @@
 -- What a new entry s under p leaves of each fact of `Sound`, over the parts of the entries as functions of the slot.
-use Rattle.std.proofs.Common.{◌≡◌, ℕ, zero, suc, ◌+◌, ◌-◌, ◌*◌, ◌<◌, ◌≤◌, Bool, true, false, cond, eqb, ◌≢◌, ◌⊎◌, sym, refl, ap, ◌∙◌, subst, inl, inr, ⊎_elim, arith}
+use Rattle.std.proofs.Common.{◌≡◌, ℕ, suc, ◌+◌, ◌<◌, ◌≤◌, Bool, true, cond, eqb, ◌≢◌, ◌⊎◌, sym, ap, ◌∙◌, inl, inr, ⊎_elim, arith}
 use Rattle.tree.specs.Limits.{ways}
 use Rattle.tree.specs.Sound.{Shape}
 use Rattle.std.proofs.lemmas.Bool.{cases_eq}

@@ -1,14 +1,14 @@
 -- A new entry keeps a tree sound and every path, and its own path is its parent's with its item.
 use Rattle.tree.specs.Limits.{slot_count, ways}
-use Rattle.std.proofs.Common.{◌≡◌, ℕ, zero, suc, ◌+◌, ◌-◌, ◌*◌, ◌^◌, ◌<◌, ◌≤◌, Bool, true, false, cond, eqb, ◌≢◌, ◌⊎◌, List, [], ◌∷◌, length, get_or, set, sym, refl, ap, ◌∙◌, subst, inl, inr, ⊎_elim, arith, length-set}
-use Rattle.std.proofs.lemmas.Bool.{cases_eq, eq-eqb, ne_eqb, both_ways}
+use Rattle.std.proofs.Common.{◌≡◌, ℕ, ◌+◌, ◌-◌, ◌<◌, ◌≤◌, cond, eqb, ◌≢◌, List, ◌∷◌, length, sym, refl, ap, ◌∙◌, subst, ⊎_elim, arith}
+use Rattle.std.proofs.lemmas.Bool.{cases_eq, eq-eqb, ne_eqb}
 use Rattle.std.proofs.lemmas.Bool.Decides.{nat_tests}
 use Rattle.tree.specs.declared.table.Entry.{Entry}
 use Rattle.tree.specs.declared.table.Table.{Table}
 use Rattle.tree.specs.Records.{at, blank, fresh, wider, grown}
-use Rattle.tree.specs.Sound.{total, kid, kid_slot, counts_used, par, item_of, uses_of, below_of, held_of, free, kids, kid_slots, Shape, Sound, Up, top, step, Grew}
+use Rattle.tree.specs.Sound.{total, kid, kid_slot, counts_used, par, item_of, uses_of, below_of, held_of, free, kids, kid_slots, Sound, Up, top, step, Grew}
 use Rattle.tree.specs.Next.{Child}
-use Rattle.tree.proofs.Totals.{two, two_first, two_second, two_other, two_length, total_two, within}
+use Rattle.tree.proofs.Totals.{two_first, two_second, two_other, two_length, total_two, within}
 use Rattle.tree.proofs.Grow.{grown_shape}
 
 -- a sum over the children of j, where the one at `a` was free and is now under p

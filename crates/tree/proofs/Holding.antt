@@ -1,5 +1,5 @@
 -- The calls by what is held.
-use Rattle.std.proofs.Common.{◌≡◌, ℕ, zero, suc, ◌+◌, ◌-◌, ◌<◌, ◌≤◌, Bool, true, false, ◌≢◌, ◌⊎◌, List, [], ◌∷◌, ◌++◌, map, reverse, length, Some, None, Option, sym, refl, ap, ◌∙◌, subst, inl, inr, ⊎_elim, append_assoc, arith}
+use Rattle.std.proofs.Common.{◌≡◌, ℕ, suc, ◌+◌, ◌<◌, ◌≤◌, true, false, ◌≢◌, List, [], ◌∷◌, ◌++◌, map, reverse, length, Some, None, Option, sym, refl, ap, ◌∙◌, subst, inl, inr, ⊎_elim, append_assoc, arith}
 use mathlib.Core.List.Memᴰ
 use mathlib.Core.List.{reverse-cons, reverse-append, reverse-reverse, Memᴰ}
 use lib.ListN.{length-map}
@@ -12,8 +12,8 @@ use Rattle.tree.specs.declared.refusal.Refusal.{Refusal}
 use Rattle.tree.specs.declared.refusal.Refusal.TheVariants.{NotHeld, Full, Present, Forked}
 use Rattle.tree.specs.Next.{Child, Pair, Vetted, Bars}
 use Rattle.tree.specs.Prefixes.{Once, Counts, Beginning}
-use Rattle.tree.specs.Held.{Held, Holder, Unheld, room, Start, New, Follows, Parts, Addable, Says, Added, Released, Shares, Shared, Taken, NoneShared, Takes}
-use Rattle.tree.proofs.Counting.{descend, path, path_up, strip, up_used, up_same, up_injective, counted, head, tail}
+use Rattle.tree.specs.Held.{Held, Holder, Unheld, room, Start, New, Follows, Parts, Addable, Says, Added, Released, Taken, NoneShared, Takes}
+use Rattle.tree.proofs.Counting.{descend, path, path_up, strip, up_same, up_injective, counted, head, tail}
 use Rattle.tree.proofs.Loose.{positive, in_table, some_used}
 use Rattle.tree.proofs.Out.{sound_out}
 

@@ -1,18 +1,18 @@
 -- That a tree is sound comes out of a truncation: what it carries besides facts can be computed again.
 use Rattle.tree.specs.Limits.{capacity, slot_count, ways}
-use Rattle.std.proofs.Common.{◌≡◌, ℕ, zero, suc, ◌+◌, ◌-◌, ◌<◌, ◌≤◌, Bool, true, false, eqb, ◌≢◌, ◌⊎◌, List, [], ◌∷◌, length, get_or, sym, refl, ap, ◌∙◌, subst, inl, inr, ⊎_elim, not-suc-le-zero, arith}
+use Rattle.std.proofs.Common.{◌≡◌, ℕ, zero, suc, ◌+◌, ◌<◌, ◌≤◌, Bool, true, false, eqb, ◌≢◌, ◌⊎◌, List, length, refl, ap, inl, inr, ⊎_elim, not-suc-le-zero, arith}
 use native.Mathlib.Nat.{ℕ_set}
 use native.Mathlib.Bridge.{le_prop}
 use mathlib.Core.Logic.{∥∥₁_elim, ∥∥₁_map}
-use mathlib.Core.HLevel.{⊥_prop, Π_prop, ×_prop, Σ_prop_path}
+use mathlib.Core.HLevel.{Π_prop, ×_prop, Σ_prop_path}
 use mathlib.Core.Bool.{Bool-set}
 use Rattle.std.proofs.lemmas.Bool.{cases_eq, cases_Bool, eq-eqb, eqb-true, both_ways}
 use Rattle.tree.specs.declared.table.Entry.{Entry}
 use Rattle.tree.specs.declared.table.Table.{Table}
 use Rattle.tree.specs.Records.{at, blank}
-use Rattle.tree.specs.Sound.{total, counts_used, par, item_of, uses_of, below_of, held_of, free, kids, kid_slots, Shape, Sound, Up, top, step}
+use Rattle.tree.specs.Sound.{total, counts_used, par, uses_of, below_of, held_of, free, kids, kid_slots, Sound, Up, top, step}
 use Rattle.tree.proofs.Totals.{within}
-use Rattle.tree.proofs.Counting.{path, path_up}
+use Rattle.tree.proofs.Counting.{path_up}
 
 -- the least number with a decidable property
 abbrev Least : (ℕ → Bool) → Type 0

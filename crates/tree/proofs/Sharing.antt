@@ -1,14 +1,13 @@
 -- Where the root has another count of children than one, or is held, no item begins every held path.
-use Rattle.std.proofs.Common.{◌≡◌, ℕ, zero, suc, ◌+◌, ◌-◌, ◌<◌, ◌≤◌, Bool, true, false, cond, eqb, ◌≢◌, ◌⊎◌, List, [], ◌∷◌, ◌++◌, length, get_or, set, sym, refl, ap, ◌∙◌, subst, inl, inr, ⊎_elim, arith, length-append}
-use Rattle.std.proofs.lemmas.Bool.{cases_eq, eq-eqb, ne_eqb}
+use Rattle.std.proofs.Common.{◌≡◌, ℕ, suc, ◌+◌, ◌<◌, true, cond, eqb, ◌≢◌, ◌⊎◌, List, [], ◌∷◌, ◌++◌, length, sym, refl, ap, ◌∙◌, subst, inl, inr, arith, length-append}
 use Rattle.std.proofs.lemmas.Bool.Decides.{nat_tests}
 use Rattle.tree.specs.declared.table.Entry.{Entry}
 use Rattle.tree.specs.declared.table.Table.{Table}
 use Rattle.tree.specs.Records.{at, blank}
 use Rattle.tree.specs.Sound.{total, kid, par, item_of, uses_of, held_of, Sound, Up, top, step, UpShares}
-use Rattle.tree.proofs.Totals.{two, two_first, two_second, two_other, two_length, total_two, within}
-use Rattle.tree.proofs.Loose.{positive, in_table, root_used}
-use Rattle.tree.proofs.Counting.{some_kid, strip, descend, path, path_up, root_empty, up_used}
+use Rattle.tree.proofs.Totals.{two, two_first, two_second, two_other, total_two, within}
+use Rattle.tree.proofs.Loose.{root_used}
+use Rattle.tree.proofs.Counting.{some_kid, strip, descend, path, path_up}
 
 abbrev last_of : List ℕ → ℕ
 last_of [] = 0

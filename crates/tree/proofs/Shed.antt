@@ -1,5 +1,5 @@
 -- What taking the entry j, which has no child and is not held, off its parent p leaves of each fact of `Sound`.
-use Rattle.std.proofs.Common.{◌≡◌, ℕ, zero, suc, ◌+◌, ◌-◌, ◌*◌, ◌<◌, ◌≤◌, Bool, true, false, cond, ◌≢◌, ◌⊎◌, sym, refl, ap, ◌∙◌, subst, inl, inr, ⊎_elim, arith}
+use Rattle.std.proofs.Common.{◌≡◌, ℕ, ◌+◌, ◌-◌, ◌<◌, ◌≤◌, Bool, true, false, ◌≢◌, ◌⊎◌, sym, ap, ◌∙◌, inl, inr, ⊎_elim, arith}
 use Rattle.tree.specs.Limits.{ways}
 use Rattle.tree.specs.Sound.{Shape}
 use Rattle.std.proofs.lemmas.Bool.{cases_eq, both_ways}

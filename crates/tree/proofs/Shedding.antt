@@ -1,13 +1,13 @@
 -- Freeing an entry that nothing uses keeps a tree sound, but that its parent may now be unused, and every other path.
 use Rattle.tree.specs.Limits.{slot_count}
-use Rattle.std.proofs.Common.{◌≡◌, ℕ, zero, suc, ◌+◌, ◌-◌, ◌*◌, ◌^◌, ◌<◌, ◌≤◌, Bool, true, false, cond, eqb, ◌≢◌, ◌⊎◌, List, [], ◌∷◌, length, get_or, set, sym, refl, ap, ◌∙◌, subst, inl, inr, ⊎_elim, arith, length-set, get_or-set_other, get_or-set_same}
-use Rattle.std.proofs.lemmas.Bool.{cases_eq, eq-eqb, ne_eqb, both_ways}
+use Rattle.std.proofs.Common.{◌≡◌, ℕ, ◌+◌, ◌<◌, ◌≤◌, false, cond, eqb, ◌≢◌, List, ◌∷◌, length, sym, refl, ap, ◌∙◌, subst, ⊎_elim, arith, length-set, get_or-set_other, get_or-set_same}
+use Rattle.std.proofs.lemmas.Bool.{cases_eq, ne_eqb}
 use Rattle.std.proofs.lemmas.Bool.Decides.{nat_tests}
 use Rattle.tree.specs.declared.table.Entry.{Entry}
 use Rattle.tree.specs.declared.table.Table.{Table}
 use Rattle.tree.specs.Records.{at, blank, slimmer, shed}
-use Rattle.tree.specs.Sound.{total, kid, kid_slot, counts_used, par, item_of, uses_of, below_of, held_of, free, kids, kid_slots, Shape, Sound, Up, top, step, Pruning}
-use Rattle.tree.proofs.Totals.{two, two_first, two_second, two_other, two_length, total_two, total_ge, total_set, no_kid, no_slots, within}
+use Rattle.tree.specs.Sound.{total, kid, kid_slot, counts_used, par, item_of, uses_of, below_of, held_of, free, kids, kid_slots, Sound, Up, top, step, Pruning}
+use Rattle.tree.proofs.Totals.{two_first, two_second, two_other, two_length, total_two, no_kid, no_slots, within}
 use Rattle.tree.proofs.Shed.{shed_shape}
 
 -- a sum over the children of l, where the one at j was under p and is now free

@@ -1,13 +1,12 @@
 -- The tree of the empty path alone is sound.
 use Rattle.tree.specs.Limits.{capacity, reserved, slot_count, first_slot}
-use Rattle.std.proofs.Common.{◌≡◌, ℕ, zero, suc, ◌+◌, ◌-◌, ◌<◌, ◌≤◌, Bool, true, false, cond, eqb, ◌≢◌, ◌⊎◌, List, [], ◌∷◌, length, get_or, set, replicate, sym, refl, ap, ◌∙◌, subst, inl, inr, ⊎_elim, arith, length-set, get_or-set_other, get_or-set_same}
+use Rattle.std.proofs.Common.{◌≡◌, ℕ, zero, suc, ◌+◌, ◌<◌, true, false, cond, eqb, ◌≢◌, List, length, get_or, set, replicate, sym, refl, ap, ◌∙◌, inr, ⊎_elim, arith, length-set, get_or-set_other, get_or-set_same}
 use lib.ListN.{length-replicate}
 use Rattle.std.proofs.lemmas.Bool.{cases_eq, eq-eqb, ne_eqb, both_ways}
-use Rattle.std.proofs.lemmas.Bool.Decides.{nat_tests}
 use Rattle.tree.specs.declared.table.Entry.{Entry}
 use Rattle.tree.specs.declared.table.Table.{Table}
 use Rattle.tree.specs.Records.{at, blank, first_entry}
-use Rattle.tree.specs.Sound.{total, kid, kid_slot, counts_used, par, item_of, uses_of, below_of, held_of, free, kids, kid_slots, Shape, Sound, Up, top, step, Fresh}
+use Rattle.tree.specs.Sound.{total, kid, kid_slot, counts_used, par, uses_of, below_of, held_of, kids, kid_slots, top, Fresh}
 use Rattle.tree.proofs.Totals.{total_set}
 
 pub total_blank : (f : ℕ → Entry → ℕ) → ((k : ℕ) → f k blank ≡ 0) → (k n : ℕ) → total f k (replicate n blank) ≡ 0

@@ -1,9 +1,9 @@
 -- Sums over the entries of a table, where one or two entries are written.
-use Rattle.std.proofs.Common.{◌≡◌, ℕ, zero, suc, ◌+◌, ◌-◌, ◌*◌, ◌<◌, ◌≤◌, Bool, true, false, cond, eqb, ◌≢◌, ◌⊎◌, List, [], ◌∷◌, length, get_or, set, sym, refl, ap, ◌∙◌, subst, inl, inr, ⊎_elim, le_of_suc-le-suc, not-suc-le-zero, add-zero, add-suc, suc-add, zero-add, mul-one, mul-add, arith, length-set, get_or-set_other, get_or-set_same}
-use Rattle.std.proofs.lemmas.Bool.{eq-eqb, ne_eqb, eqb-true, eqb-false, cases_Bool}
+use Rattle.std.proofs.Common.{◌≡◌, ℕ, zero, suc, ◌+◌, ◌*◌, ◌<◌, ◌≤◌, true, false, cond, eqb, ◌≢◌, List, [], ◌∷◌, length, set, refl, ap, ◌∙◌, ⊎_elim, le_of_suc-le-suc, not-suc-le-zero, add-zero, zero-add, mul-one, mul-add, arith, length-set, get_or-set_other, get_or-set_same}
+use Rattle.std.proofs.lemmas.Bool.{eq-eqb, eqb-true, eqb-false, cases_Bool}
 use Rattle.tree.specs.declared.table.Entry.{Entry}
 use Rattle.tree.specs.Records.{at, blank}
-use Rattle.tree.specs.Sound.{total, kid, kid_slot, counts_used}
+use Rattle.tree.specs.Sound.{total, kid, kid_slot}
 
 -- one entry is written
 pub total_set : (f : ℕ → Entry → ℕ) (k : ℕ) (es : List Entry) (i : ℕ) (e : Entry) → i < length es

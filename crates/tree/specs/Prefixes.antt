@@ -1,5 +1,5 @@
 -- How many different non-empty beginnings the held paths have.
-use Rattle.std.specs.Prelude.{◌≡◌, ℕ, ◌+◌, ◌<◌, Bool, true, false, ◌≢◌, List, [], ◌∷◌, ◌++◌, length}
+use Rattle.std.specs.Prelude.{◌≡◌, ℕ, true, ◌≢◌, List, [], ◌∷◌, ◌++◌, length}
 use mathlib.Core.List.{Memᴰ}
 use Rattle.tree.specs.declared.table.Table.{Table}
 use Rattle.tree.specs.Sound.{held_of, Up}

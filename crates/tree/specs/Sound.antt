@@ -1,6 +1,6 @@
 -- The table under a path tree, and what always holds of it.
 use Rattle.tree.specs.Limits.{capacity, slot_count, ways, first_slot}
-use Rattle.std.specs.Prelude.{◌≡◌, ℕ, zero, suc, ◌+◌, ◌-◌, ◌<◌, ◌≤◌, Bool, true, false, cond, ◌≢◌, ◌⊎◌, List, [], ◌∷◌, ◌++◌, length, Some, None, Option, ◌==◌, slice_index}
+use Rattle.std.specs.Prelude.{◌≡◌, ℕ, suc, ◌+◌, ◌<◌, ◌≤◌, Bool, true, false, cond, ◌≢◌, ◌⊎◌, List, [], ◌∷◌, ◌++◌, length, Some, None, Option, ◌==◌, slice_index}
 use Rattle.tree.specs.declared.table.Entry.{Entry}
 use Rattle.tree.specs.declared.table.Table.{Table}
 use Rattle.tree.specs.Records.{at, blank}

@@ -1,7 +1,6 @@
 -- The law bounds the number of a symbol that belongs to a class.
-use Rattle.std.proofs.Common.{◌≡◌, ◌≤◌, true, sym, ◌∙◌, arith, rules}
+use Rattle.std.proofs.Common.{◌≤◌, sym, arith, rules}
 use Rattle.alphabet.specs.Bounds.{largest_number}
-use Rattle.alphabet.specs.Meaning.{Meaning}
 use Rattle.alphabet.proofs.item.read_item.Given as given
 use Rattle.alphabet.proofs.item.read_item.Goals as goal
 

@@ -1,4 +1,4 @@
-use Rattle.std.proofs.Common.{◌≡◌, ℕ, ◌+◌, ◌*◌, ◌%◌, ◌<◌, ◌≤◌, List, [], ◌∷◌, length, get_or, drop, Some, None, Option, sym, refl, ap, ◌∙◌, arith}
+use Rattle.std.proofs.Common.{◌≡◌, ℕ, ◌+◌, ◌*◌, ◌%◌, List, drop, Some, None, Option, sym, refl, ap, ◌∙◌, arith}
 use Rattle.pattern.specs.declared.number.Number.{Number}
 use Rattle.pattern.specs.Numbers.{Long, under, groups, small, number, found}
 use Rattle.pattern.proofs.Numerals.{groups_none, groups_last, groups_more, small_in, small_out}

@@ -1,5 +1,5 @@
 -- What is written is the line of the number, the layer, the place and the words that the calls answered.
-use Rattle.std.proofs.Common.{◌≡◌, ℕ, ap, ◌∙◌}
+use Rattle.std.proofs.Common.{◌≡◌, ap, ◌∙◌}
 use Rattle.std.proofs.Output.{has_written_of_eq}
 use Rattle.fault.specs.Causes.{number, layer, layer_number, words}
 use Rattle.fault.specs.Telling.{line}

@@ -1,5 +1,4 @@
-use Rattle.std.proofs.Common.{◌≡◌, ℕ, ◌≤◌, length, Some, sym, ap, ◌∙◌, arith}
-use Rattle.pattern.specs.Drafts.{Drafted}
+use Rattle.std.proofs.Common.{Some, sym, ap, ◌∙◌, arith}
 use Rattle.pattern.proofs.Numerals.{found_some}
 use Rattle.pattern.proofs.Operating.{meets_at}
 use Rattle.pattern.proofs.pattern.load.operate.Goals as goal

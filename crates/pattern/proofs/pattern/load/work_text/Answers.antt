@@ -1,9 +1,9 @@
-use Rattle.std.proofs.Common.{◌≡◌, ◌+◌, ◌-◌, ◌≤◌, ◌∷◌, length, take, drop, Ok, Err, sym, refl, ap, ◌∙◌, subst, arith}
+use Rattle.std.proofs.Common.{◌+◌, ◌-◌, ◌≤◌, ◌∷◌, length, take, drop, Ok, Err, sym, ap, ◌∙◌, subst, arith}
 use Rattle.std.proofs.lemmas.Result.{err_from_is_err_and}
 use Rattle.pattern.specs.Numbers.{number}
 use Rattle.pattern.specs.Expressions.{text}
 use Rattle.pattern.specs.Files.{limited, given, texting}
-use Rattle.pattern.specs.Drafts.{Done, Meets}
+use Rattle.pattern.specs.Drafts.{Meets}
 use Rattle.pattern.proofs.Numerals.{found_some}
 use Rattle.pattern.proofs.Operating.{text_cut, text_whole, meets_err, meets_ok}
 use Rattle.pattern.proofs.pattern.load.work_text.Goals as goal

@@ -1,4 +1,4 @@
-use Rattle.std.proofs.Common.{◌≡◌, ◌+◌, ◌^◌, ◌<◌, length, get_or, sym, refl, ap, ◌∙◌, arith, take_all}
+use Rattle.std.proofs.Common.{◌+◌, ◌^◌, ◌<◌, length, get_or, sym, refl, ap, ◌∙◌, arith, take_all}
 use lib.Count.{ones, ones-le}
 use Rattle.point_set.specs.Flags.{flags, tally}
 use Rattle.point_set.proofs.Digits.{tally_more}

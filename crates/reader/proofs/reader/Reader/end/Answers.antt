@@ -1,4 +1,3 @@
-use Rattle.std.proofs.Common.{refl}
 use Rattle.reader.specs.Gather.{items_of}
 use Rattle.reader.specs.Seen.{every}
 use Rattle.reader.proofs.Out.{fit_of}

@@ -1,4 +1,3 @@
-use Rattle.std.proofs.Common.{arith}
 use Rattle.reader.specs.Seen.{every}
 use Rattle.reader.proofs.Out.{fit_of}
 use Rattle.reader.proofs.Keeping.{some_none, shows}

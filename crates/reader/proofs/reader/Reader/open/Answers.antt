@@ -1,6 +1,5 @@
 use Rattle.std.proofs.Common.{[], refl}
 use Rattle.reader.specs.Seen.{every}
-use Rattle.reader.specs.Calls.{held_in}
 use Rattle.reader.specs.Gather.{items_of}
 use Rattle.reader.proofs.Opening.{starts}
 use Rattle.reader.proofs.reader.Reader.open.Goals as goal

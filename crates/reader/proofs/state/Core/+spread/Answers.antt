@@ -1,6 +1,6 @@
-use Rattle.std.proofs.Common.{◌≡◌, ℕ, ◌+◌, ◌<◌, sym, refl, ap, ◌∙◌, arith}
+use Rattle.std.proofs.Common.{sym, ap, ◌∙◌, arith}
 use Rattle.walk.specs.Graphs.{rests}
-use Rattle.reader.proofs.Spreading.{holder, falls, again_spread, leaf_room, leaf_spread, pass_ready, pass_spread, first_addable, first_ready, second_addable, second_ready, holder4, fork_spread}
+use Rattle.reader.proofs.Spreading.{falls, again_spread, leaf_room, leaf_spread, pass_ready, pass_spread, first_addable, first_ready, second_addable, second_ready, holder4, fork_spread}
 use Rattle.reader.proofs.state.Core.+spread.Goals as goal
 
 pub returns-then-mark : goal.returns-then-mark

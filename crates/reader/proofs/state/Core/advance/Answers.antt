@@ -1,9 +1,9 @@
-use Rattle.std.proofs.Common.{◌≡◌, ℕ, ◌+◌, ◌<◌, ◌≤◌, [], Ok, Err, refl, arith}
+use Rattle.std.proofs.Common.{[], Ok, Err, arith}
 use Rattle.reader.specs.declared.stop.Stop.TheVariants.{Dead, TreeFull}
 use Rattle.reader.specs.Gather.{items_of}
 use Rattle.reader.specs.Seen.{see, every}
 use Rattle.reader.specs.Reading.{Advances}
-use Rattle.reader.proofs.Reading.{begun_some, Swept, swept_from, turned}
+use Rattle.reader.proofs.Reading.{begun_some, swept_from, turned}
 use Rattle.reader.proofs.Answering.{over, not_over, sweep_seen, answers_dead, answers_full, answers_read}
 use Rattle.reader.proofs.Exact.{exactly}
 use Rattle.reader.proofs.state.Core.advance.Goals as goal

@@ -1,7 +1,7 @@
-use Rattle.std.proofs.Common.{List, length, refl, subst, arith}
+use Rattle.std.proofs.Common.{List, length, subst, arith}
 use Rattle.walk.specs.Search.{Reached}
 use Rattle.reader.specs.State.{Spare}
-use Rattle.reader.proofs.Carrying.{First, first, addable, holder1, ready, carried}
+use Rattle.reader.proofs.Carrying.{first, addable, holder1, ready, carried}
 use Rattle.reader.proofs.state.Core.carry.Goals as goal
 
 pub extend-read-requires : goal.extend-read-requires

@@ -1,5 +1,5 @@
 use Rattle.std.proofs.Common.{refl}
-use Rattle.reader.proofs.Carrying.{First, first, holder, let_go}
+use Rattle.reader.proofs.Carrying.{first, holder, let_go}
 use Rattle.reader.proofs.state.Core.let_go.Goals as goal
 
 pub dismiss-requires : goal.dismiss-requires

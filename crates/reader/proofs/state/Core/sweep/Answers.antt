@@ -1,4 +1,4 @@
-use Rattle.std.proofs.Common.{◌≡◌, ℕ, ◌+◌, ◌<◌, refl, ap, ◌∙◌, subst, arith}
+use Rattle.std.proofs.Common.{◌≡◌, ℕ, refl, ap, ◌∙◌, subst, arith}
 use Rattle.reader.specs.declared.state.Line.{Line}
 use Rattle.reader.specs.Sweeping.{LeadsOn}
 use Rattle.reader.proofs.state.Core.sweep.Goals as goal

@@ -1,4 +1,4 @@
-use Rattle.std.proofs.Common.{◌≡◌, ℕ, ◌≤◌, true, ◌↔◌, length, take}
+use Rattle.std.proofs.Common.{◌≡◌, ℕ, true, ◌↔◌, take}
 use Rattle.reader.specs.Marks.{marked}
 use Rattle.reader.specs.Spread.{On}
 use Rattle.reader.proofs.state.Line.points.Given as goal

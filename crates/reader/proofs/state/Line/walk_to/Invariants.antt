@@ -1,4 +1,4 @@
-use Rattle.std.proofs.Common.{ℕ, take}
+use Rattle.std.proofs.Common.{take}
 use Rattle.reader.specs.Spread.{On}
 use Rattle.reader.proofs.state.Line.walk_to.Given as goal
 

@@ -1,6 +1,6 @@
-use Rattle.std.proofs.Common.{◌≡◌, ◌+◌, ◌<◌, sym, refl, arith}
+use Rattle.std.proofs.Common.{arith}
 use Rattle.tree.proofs.Holding.{room_bound}
-use Rattle.reader.proofs.Gathering.{gathered_none, gathered_more, gathered_same, parted_same, same_room}
+use Rattle.reader.proofs.Gathering.{gathered_more, gathered_same, parted_same, same_room}
 use Rattle.reader.proofs.state.gathers.gather.Goals as goal
 
 pub push-requires : goal.push-requires

@@ -1,4 +1,4 @@
-use Rattle.std.proofs.Common.{◌≡◌, ◌+◌, ◌-◌, ◌<◌, length}
+use Rattle.std.proofs.Common.{◌≡◌, ◌+◌, ◌-◌, length}
 use Rattle.tree.specs.Limits.{capacity}
 use Rattle.tree.specs.Held.{room}
 use Rattle.reader.specs.Gather.{items_of, Gathered}

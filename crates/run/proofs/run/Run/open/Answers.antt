@@ -4,5 +4,5 @@ use Rattle.run.specs.Inner.{Held}
 use Rattle.run.proofs.Kept.{held_at}
 use Rattle.run.proofs.run.Run.open.Goals as goal
 
-pub invariant-of-result : goal.invariant-of-result
-invariant-of-result g c = (∣ held_at _ _ _ c.open-count.ensures.pattern c.open-count.ensures.held ∣₁, tt)
+pub invariant_of-result : goal.invariant_of-result
+invariant_of-result g c = record { stage = ∣ held_at _ _ _ c.open-count.ensures.pattern c.open-count.ensures.held ∣₁ }

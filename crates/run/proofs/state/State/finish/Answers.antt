@@ -19,23 +19,23 @@ returns-then-not-accepted g c =
     let i = inner c.args.self.reader.core c.args.self.reader.stop c.args.self.book in
     let not = sym c.accepted.ensures ∙ c.if-not-accepted.true in
     record {
-      closes = finish_denied L q K i _ c.end.result (held_in c.end.new.out) c.in-default.is not c.end.ensures.ends;
-      seen = finish_denied every q K i _ c.end.result (held_in c.end.new.out) c.in-default.is not c.end.ensures.seen;
+      closes = finish_denied L q K i _ c.end.result (held_in c.end.new.out) c.in_default.is not c.end.ensures.ends;
+      seen = finish_denied every q K i _ c.end.result (held_in c.end.new.out) c.in_default.is not c.end.ensures.seen;
     }
 
-pub returns-in-err-given : goal.returns-in-err-given
-returns-in-err-given g c =
+pub returns-in_err-given : goal.returns-in_err-given
+returns-in_err-given g c =
     let K = g.K.Sink.meaning in
     let L = g.A.Alphabet.meaning c.args.self.reader.alphabet.now in
     let q = c.args.self.reader.pattern.now in
     let i = inner c.args.self.reader.core c.args.self.reader.stop c.args.self.book in
-    let p = err_from_is_err_and c.from-residual.result c.from-residual.ensures.1 in
+    let p = err_from_is_err_and c.from_residual.result c.from_residual.ensures.1 in
     let e = p.1 ∙ ap (λ f. Err f) p.2 in
     let so = sym c.accepted.ensures ∙ c.if-not-accepted.false in
-    let G = gives_so K _ _ _ _ _ _ _ c.in-err-given.was (gives_as K _ _ _ _ _ _ _ c.items.ensures c.give-given.ensures) in
+    let G = gives_so K _ _ _ _ _ _ _ c.in_err-given.was (gives_as K _ _ _ _ _ _ _ c.items.ensures c.give-given.ensures) in
     record {
-      closes = closes_so L q K i _ _ _ _ e (finish_stopped L q K i _ _ c.end.result (held_in c.end.new.out) _ _ c.in-default.is so c.end.ensures.ends G);
-      seen = closes_so every q K i _ _ _ _ e (finish_stopped every q K i _ _ c.end.result (held_in c.end.new.out) _ _ c.in-default.is so c.end.ensures.seen G);
+      closes = closes_so L q K i _ _ _ _ e (finish_stopped L q K i _ _ c.end.result (held_in c.end.new.out) _ _ c.in_default.is so c.end.ensures.ends G);
+      seen = closes_so every q K i _ _ _ _ e (finish_stopped every q K i _ _ c.end.result (held_in c.end.new.out) _ _ c.in_default.is so c.end.ensures.seen G);
     }
 
 pub returns : goal.returns
@@ -45,8 +45,8 @@ returns g c =
     let q = c.args.self.reader.pattern.now in
     let i = inner c.args.self.reader.core c.args.self.reader.stop c.args.self.book in
     let so = sym c.accepted.ensures ∙ c.if-not-accepted.false in
-    let G = gives_so K _ _ _ _ _ _ _ c.in-ok-given.was (gives_as K _ _ _ _ _ _ _ c.items.ensures c.give-given.ensures) in
+    let G = gives_so K _ _ _ _ _ _ _ c.in_ok-given.was (gives_as K _ _ _ _ _ _ _ c.items.ensures c.give-given.ensures) in
     record {
-      closes = finish_all L q K i _ _ c.end.result (held_in c.end.new.out) _ _ _ c.in-default.is so c.end.ensures.ends G c.finished.ensures.items c.finished.ensures.symbols;
-      seen = finish_all every q K i _ _ c.end.result (held_in c.end.new.out) _ _ _ c.in-default.is so c.end.ensures.seen G c.finished.ensures.items c.finished.ensures.symbols;
+      closes = finish_all L q K i _ _ c.end.result (held_in c.end.new.out) _ _ _ c.in_default.is so c.end.ensures.ends G c.finished.ensures.items c.finished.ensures.symbols;
+      seen = finish_all every q K i _ _ c.end.result (held_in c.end.new.out) _ _ _ c.in_default.is so c.end.ensures.seen G c.finished.ensures.items c.finished.ensures.symbols;
     }

@@ -11,7 +11,7 @@ returns-then-not-known g c =
     record {
       pattern = c.open-reader.ensures.pattern;
       alphabet = c.open-reader.ensures.alphabet;
-      opens = open_refused L c.args.pattern.now g.K.Sink.meaning _ _ (unknown_at L c.args.pattern.now _ c.class-count-count.ensures (c.known.ensures.beyond c.if-not-known.true)) refl refl refl;
+      opens = open_refused L c.args.pattern.now g.K.Sink.meaning _ _ (unknown_at L c.args.pattern.now _ c.class_count-count.ensures (c.known.ensures.beyond c.if-not-known.true)) refl refl refl;
       held = (_, state_refused every c.args.pattern.now nowhere _ refl refl refl);
     }
 
@@ -24,7 +24,7 @@ returns g c =
       pattern = c.open-reader.ensures.pattern;
       alphabet = c.open-reader.ensures.alphabet;
       opens =
-          open_given L c.args.pattern.now K (g.met.A.Alphabet.lawful c.args.alphabet.now).inhabited _ _ _ _ _ _ (known_at L c.args.pattern.now _ c.class-count-count.ensures (c.known.ensures.below c.if-not-known.false))
+          open_given L c.args.pattern.now K (g.met.A.Alphabet.lawful c.args.alphabet.now).inhabited _ _ _ _ _ _ (known_at L c.args.pattern.now _ c.class_count-count.ensures (c.known.ensures.below c.if-not-known.false))
           c.open-reader.ensures.starts c.open-reader.ensures.fresh refl refl c.err.ensures.value G;
       held =
           held_led c.args.pattern.now K _ _ _

@@ -51,9 +51,9 @@ returns g c =
       answer = told_fault _ _ b.fault;
       more = omega (arith, b.handed);
       feeds =
-          symbol_read L _ K (g.met.A.Alphabet.lawful a).inhabited _ _ _ _ _ _ _ _ c.in-default.field-0 c.in-default.ensures.reads
-          c.in-default.ensures.stop b.read b.handed b.fault few G;
+          symbol_read L _ K (g.met.A.Alphabet.lawful a).inhabited _ _ _ _ _ _ _ _ c.in_default.field-0 c.in_default.ensures.reads
+          c.in_default.ensures.stop b.read b.handed b.fault few G;
       seen =
-          symbol_read every _ K every_inhabited _ _ _ _ _ _ _ _ c.in-default.field-0 c.in-default.ensures.seen
-          c.in-default.ensures.stop b.read b.handed b.fault few G;
+          symbol_read every _ K every_inhabited _ _ _ _ _ _ _ _ c.in_default.field-0 c.in_default.ensures.seen
+          c.in_default.ensures.stop b.read b.handed b.fault few G;
     }

@@ -1,5 +1,5 @@
 use Rattle.std.proofs.Common.{sym, refl}
-use Rattle.tree.proofs.Holding.{sound_of, released, not_held}
+use Rattle.tree.proofs.Holding.{sound_of, released}
 use Rattle.tree.proofs.paths.PathTree.release.Goals as goal
 
 pub is_held-requires : goal.is_held-requires

@@ -1,4 +1,4 @@
-use Rattle.std.proofs.Common.{◌≡◌, refl, arith}
+use Rattle.std.proofs.Common.{refl, arith}
 use Rattle.tree.proofs.Loose.{in_table, root_used, below_fit}
 use Rattle.tree.proofs.Raising.{below_is, c≢r, c_in, c_pos, raise_left, raise_shifted, shifted_as}
 use Rattle.tree.proofs.Sharing.{unshared}

@@ -1,7 +1,5 @@
-use Rattle.std.proofs.Common.{◌≡◌, ◌<◌, List, [], ◌∷◌, length, take, sym, refl, arith}
-use Rattle.pattern.specs.Expressions.{Expr, alt}
-use Rattle.pattern.specs.Files.{on_two}
-use Rattle.pattern.specs.Drafts.{Holds, Done}
+use Rattle.std.proofs.Common.{[], ◌∷◌, arith}
+use Rattle.pattern.specs.Expressions.{alt}
 use Rattle.pattern.proofs.Drafting.{done_in, top, below, chosen}
 use Rattle.pattern.proofs.pattern.draft.Draft.choice.Goals as goal
 

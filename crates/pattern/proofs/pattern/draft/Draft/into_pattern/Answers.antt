@@ -1,4 +1,4 @@
-use Rattle.std.proofs.Common.{◌≡◌, ◌-◌, sym, refl, ap, arith}
+use Rattle.std.proofs.Common.{◌-◌, arith}
 use Rattle.pattern.specs.Points.{fill}
 use Rattle.pattern.proofs.Fronts.{length_mid}
 use Rattle.pattern.proofs.Drafting.{finished}

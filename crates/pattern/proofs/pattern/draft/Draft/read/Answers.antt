@@ -1,4 +1,4 @@
-use Rattle.std.proofs.Common.{◌≡◌, ◌<◌, ◌∷◌, length, take, sym, refl, arith}
+use Rattle.std.proofs.Common.{◌<◌, ◌∷◌, length, take, sym, refl, arith}
 use Rattle.std.proofs.lemmas.List.{append-nil, take_more_set}
 use Rattle.pattern.specs.Expressions.{read}
 use Rattle.pattern.proofs.Drafting.{done_in, pushed}

@@ -1,10 +1,6 @@
-use Rattle.std.proofs.Common.{◌≡◌, ◌+◌, ◌-◌, ◌*◌, ◌<◌, ◌≤◌, List, [], ◌∷◌, length, get_or, take, sym, refl, ap, arith}
+use Rattle.std.proofs.Common.{◌-◌, ◌≤◌, [], ◌∷◌, get_or, arith}
 use Rattle.pattern.specs.Limits.{most_points}
-use Rattle.pattern.specs.Expressions.{Expr, seq, size}
-use Rattle.pattern.specs.Files.{total, on_two}
-use Rattle.pattern.specs.Drafts.{Holds, Drafted, Done}
-use Rattle.pattern.specs.declared.pattern.draft.Part.{Part}
-use Rattle.pattern.specs.declared.pattern.draft.Draft.{Draft}
+use Rattle.pattern.specs.Expressions.{seq}
 use Rattle.pattern.proofs.Drafting.{done_in, top, below, joined, both_within}
 use Rattle.pattern.proofs.pattern.draft.Draft.sequence.Goals as goal
 

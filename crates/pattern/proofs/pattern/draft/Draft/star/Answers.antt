@@ -1,8 +1,7 @@
-use Rattle.std.proofs.Common.{◌≡◌, ◌+◌, ◌-◌, ◌*◌, ◌<◌, ◌≤◌, List, [], ◌∷◌, length, get_or, take, sym, refl, ap, arith}
+use Rattle.std.proofs.Common.{◌-◌, ◌<◌, [], ◌∷◌, length, get_or, arith}
 use borrow.Rule.Slice.PartMut.{put_mid}
-use Rattle.pattern.specs.Expressions.{Expr, star}
+use Rattle.pattern.specs.Expressions.{star}
 use Rattle.pattern.specs.Points.{fill}
-use Rattle.pattern.specs.Drafts.{Holds, Done}
 use Rattle.pattern.proofs.Fronts.{length_mid}
 use Rattle.pattern.specs.declared.pattern.draft.Part.{Part}
 use Rattle.pattern.proofs.Drafting.{done_in, top, looped, last_within}

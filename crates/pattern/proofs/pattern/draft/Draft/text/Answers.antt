@@ -1,8 +1,7 @@
-use Rattle.std.proofs.Common.{◌≡◌, ◌+◌, ◌-◌, ◌<◌, ◌≤◌, ◌∷◌, ◌++◌, length, take, sym, refl, ap, ◌∙◌, arith, length-append}
-use Rattle.std.proofs.lemmas.List.{append-nil, take_more_set}
+use Rattle.std.proofs.Common.{◌≡◌, ◌+◌, ◌-◌, ◌<◌, ◌∷◌, ◌++◌, length, take, sym, refl, ap, ◌∙◌, arith, length-append}
+use Rattle.std.proofs.lemmas.List.{take_more_set}
 use Rattle.std.proofs.lemmas.Slice.{take-put_mid}
 use Rattle.pattern.specs.Expressions.{text}
-use Rattle.pattern.specs.Points.{open_end}
 use Rattle.pattern.specs.Files.{bytes}
 use Rattle.pattern.proofs.Drafting.{done_in, done_out, points_out, bytes_out, count_out, pushed}
 use Rattle.pattern.proofs.pattern.draft.Draft.text.Goals as goal
