@@ -7,6 +7,6 @@ returns g c =
     let L = g.A.Alphabet.meaning c.args.alphabet.now in
     let p = c.args.pattern.now in
     record {
-      reads = reads_fresh L p c.args.manner c.fresh-sinks-sinks.result _ _ _ _ _ _ _ _ c.fresh-sinks-sinks.ensures c.perform-whole-opened.ensures;
+      reads = reads_fresh L p c.args.manner c.fresh_sinks-sinks.result _ _ _ _ _ _ _ _ c.fresh_sinks-sinks.ensures c.perform_whole-opened.ensures;
       files = files_greedy L p c.args.manner _ _ _ _ _ _ _ _;
     }

@@ -23,8 +23,8 @@ returns-then-contains g c =
       keeps = refl;
     }
 
-pub returns-in-default : goal.returns-in-default
-returns-in-default g c =
+pub returns-in_default : goal.returns-in_default
+returns-in_default g c =
     let h = c.args.cursor.now in
     let P = c.args.pattern.now in
     let L = g.L.Alphabet.meaning c.args.alphabet.now in
@@ -35,13 +35,13 @@ returns-in-default g c =
     let fresh = sym c.contains.ensures ∙ c.if-contains.false in
     let here = sym c.in-Fork.ensures in
     record {
-      steps = turn_dry L (graph P) m (end_of P) (end_small P) (leads_within P) (unread h.bits) w (met_of h.met) h.at h.read h.ended q s c.requires.going _ c.in-Fork.first c.in-Fork.second fresh here c.in-default.ensures.gives.0 c.broken-in-default.ensures;
+      steps = turn_dry L (graph P) m (end_of P) (end_small P) (leads_within P) (unread h.bits) w (met_of h.met) h.at h.read h.ended q s c.requires.going _ c.in-Fork.first c.in-Fork.second fresh here c.in_default.ensures.gives.0 c.broken-in_default.ensures;
       here = c.requires.here;
       keeps = refl;
     }
 
-pub returns-in-err-hand : goal.returns-in-err-hand
-returns-in-err-hand g c =
+pub returns-in_err-hand-in-Fork : goal.returns-in_err-hand-in-Fork
+returns-in_err-hand-in-Fork g c =
     let h = c.args.cursor.now in
     let P = c.args.pattern.now in
     let L = g.L.Alphabet.meaning c.args.alphabet.now in
@@ -51,18 +51,18 @@ returns-in-err-hand g c =
     let s = g.S.Sink.stock c.args.sink.now in
     let fresh = sym c.contains.ensures ∙ c.if-contains.false in
     let here = sym c.in-Fork.ensures in
-    let p = err_from_is_err_and c.from-residual.result c.from-residual.ensures.1 in
-    let r = c.in-err-hand.ensures in
+    let p = err_from_is_err_and c.from_residual.result c.from_residual.ensures.1 in
+    let r = c.in_err-hand-in-Fork.ensures in
     record {
       steps = steps_refused L (graph P) m _ _ q _ s _ _ _ (p.1 ∙ ap Err p.2)
           (bars_fork L (graph P) m (end_of P) (end_small P) (leads_within P) (unread h.bits) w (met_of h.met) h.at h.read h.ended q s c.requires.going
-          _ r.0 _ c.in-Some.bit c.in-Fork.first c.in-Fork.second _ _ _ fresh here c.in-Some.ensures.gives c.branch-item.ensures (fork_within P h.at c.in-Some.bit _ _ here) r.1 r.2 r.3 r.4);
+          _ r.0 _ c.in-Some.bit c.in-Fork.first c.in-Fork.second _ _ _ fresh here c.in-Some.ensures.gives c.branch_item.ensures (fork_within P h.at c.in-Some.bit _ _ here) r.1 r.2 r.3 r.4);
       here = c.requires.here;
       keeps = refl;
     }
 
-pub returns-in-err-item : goal.returns-in-err-item
-returns-in-err-item g c =
+pub returns-in_err-item-in-Read : goal.returns-in_err-item-in-Read
+returns-in_err-item-in-Read g c =
     let h = c.args.cursor.now in
     let P = c.args.pattern.now in
     let L = g.L.Alphabet.meaning c.args.alphabet.now in
@@ -72,16 +72,16 @@ returns-in-err-item g c =
     let s = g.S.Sink.stock c.args.sink.now in
     let fresh = sym c.contains.ensures ∙ c.if-contains.false in
     let here = sym c.in-Read.ensures in
-    let p = err_from_is_err_and c.from-residual-in-err-item.result c.from-residual-in-err-item.ensures.1 in
+    let p = err_from_is_err_and c.from_residual-in_err-item-in-Read.result c.from_residual-in_err-item-in-Read.ensures.1 in
     record {
       steps = steps_refused L (graph P) m _ _ q _ s _ _ _ (p.1 ∙ ap Err p.2)
-          (turn_outside L (graph P) m (end_of P) (end_small P) (leads_within P) (unread h.bits) w (met_of h.met) h.at h.read h.ended q s c.requires.going _ c.in-Read.class c.in-Read.next fresh here c.in-err-item.ensures);
+          (turn_outside L (graph P) m (end_of P) (end_small P) (leads_within P) (unread h.bits) w (met_of h.met) h.at h.read h.ended q s c.requires.going _ c.in-Read.class c.in-Read.next fresh here c.in_err-item-in-Read.ensures);
       here = c.requires.here;
       keeps = refl;
     }
 
-pub returns-in-err-hand-2 : goal.returns-in-err-hand-2
-returns-in-err-hand-2 g c =
+pub returns-in_err-hand-in-Read : goal.returns-in_err-hand-in-Read
+returns-in_err-hand-in-Read g c =
     let h = c.args.cursor.now in
     let P = c.args.pattern.now in
     let L = g.L.Alphabet.meaning c.args.alphabet.now in
@@ -91,9 +91,9 @@ returns-in-err-hand-2 g c =
     let s = g.S.Sink.stock c.args.sink.now in
     let fresh = sym c.contains.ensures ∙ c.if-contains.false in
     let here = sym c.in-Read.ensures in
-    let item = reading L c.in-Read.class _ h.read _ c.in-ok-item.ensures in
-    let p = err_from_is_err_and c.from-residual-in-err-hand-2.result c.from-residual-in-err-hand-2.ensures.1 in
-    let r = c.in-err-hand-2.ensures in
+    let item = reading L c.in-Read.class _ h.read _ c.in_ok-item-in-Read.ensures in
+    let p = err_from_is_err_and c.from_residual-in_err-hand-in-Read.result c.from_residual-in_err-hand-in-Read.ensures.1 in
+    let r = c.in_err-hand-in-Read.ensures in
     record {
       steps = steps_refused L (graph P) m _ _ q _ s _ _ _ (p.1 ∙ ap Err p.2)
           (bars_read L (graph P) m (end_of P) (end_small P) (leads_within P) (unread h.bits) w (met_of h.met) h.at h.read h.ended q s c.requires.going
@@ -102,16 +102,16 @@ returns-in-err-hand-2 g c =
       keeps = refl;
     }
 
-pub overflow-add-cursor : goal.overflow-add-cursor
-overflow-add-cursor g c =
+pub overflow_add-cursor : goal.overflow_add-cursor
+overflow_add-cursor g c =
     let h = c.args.cursor.now in
     let L = g.L.Alphabet.meaning c.args.alphabet.now in
     let w = c.args.symbols.now in
-    let item = reading L c.in-Read.class _ h.read _ c.in-ok-item.ensures in
+    let item = reading L c.in-Read.class _ h.read _ c.in_ok-item-in-Read.ensures in
     omega (arith, c.requires.short, (drop_next w h.read item.symbol item.rest item.is).0)
 
-pub returns-in-err-mark-end : goal.returns-in-err-mark-end
-returns-in-err-mark-end g c =
+pub returns-in_err-mark_end-in-End : goal.returns-in_err-mark_end-in-End
+returns-in_err-mark_end-in-End g c =
     let h = c.args.cursor.now in
     let P = c.args.pattern.now in
     let L = g.L.Alphabet.meaning c.args.alphabet.now in
@@ -121,11 +121,11 @@ returns-in-err-mark-end g c =
     let s = g.S.Sink.stock c.args.sink.now in
     let fresh = sym c.contains.ensures ∙ c.if-contains.false in
     let here = sym c.in-End.ensures in
-    let p = err_from_is_err_and c.from-residual-in-err-mark-end.result c.from-residual-in-err-mark-end.ensures.1 in
+    let p = err_from_is_err_and c.from_residual-in_err-mark_end-in-End.result c.from_residual-in_err-mark_end-in-End.ensures.1 in
     record {
       steps = steps_refused L (graph P) m _ _ q _ s _ _ _ (p.1 ∙ ap Err p.2)
           (bars_end L (graph P) m (end_of P) (end_small P) (leads_within P) (unread h.bits) w (met_of h.met) h.at h.read h.ended q s c.requires.going
-          c.nothing-left.result _ _ _ fresh here c.nothing-left.ensures c.in-err-mark-end.ensures);
+          c.nothing_left.result _ _ _ fresh here c.nothing_left.ensures c.in_err-mark_end-in-End.ensures);
       here = c.requires.here;
       keeps = refl;
     }
@@ -144,13 +144,13 @@ returns-in-Pass g c =
     let low : h.at < 256 = omega arith in
     record {
       steps = turn_skip L (graph P) m (end_of P) (end_small P) (leads_within P) (unread h.bits) w (met_of h.met) h.at h.read h.ended q s c.requires.going
-          (met_of c.mark-met.new.met) c.in-Pass.next fresh here low (inserted h.met c.mark-met.new.met h.at c.mark-met.ensures low) (pass_within P h.at _ here);
+          (met_of c.mark_met.new.met) c.in-Pass.next fresh here low (inserted h.met c.mark_met.new.met h.at c.mark_met.ensures low) (pass_within P h.at _ here);
       here = pass_within P h.at _ here;
       keeps = refl;
     }
 
-pub returns-in-ok-hand : goal.returns-in-ok-hand
-returns-in-ok-hand g c =
+pub returns-in_ok-hand-in-Fork : goal.returns-in_ok-hand-in-Fork
+returns-in_ok-hand-in-Fork g c =
     let h = c.args.cursor.now in
     let P = c.args.pattern.now in
     let L = g.L.Alphabet.meaning c.args.alphabet.now in
@@ -161,18 +161,18 @@ returns-in-ok-hand g c =
     let fresh = sym c.contains.ensures ∙ c.if-contains.false in
     let here = sym c.in-Fork.ensures in
     let low : h.at < 256 = omega arith in
-    let r = c.in-ok-hand.ensures in
+    let r = c.in_ok-hand-in-Fork.ensures in
     let within : c.branch-cursor.result ≤ end_of P = rw c.branch-cursor.ensures (fork_within P h.at c.in-Some.bit _ _ here) in
     record {
       steps = turn_fork L (graph P) m (end_of P) (end_small P) (leads_within P) (unread h.bits) w (met_of h.met) h.at h.read h.ended q s c.requires.going
-          (met_of c.mark-met-in-Fork.new.met) _ c.in-Some.bit c.in-Fork.first c.in-Fork.second _ _ _ _ _ fresh here
-          (inserted h.met c.mark-met-in-Fork.new.met h.at c.mark-met-in-Fork.ensures low) c.in-Some.ensures.gives c.branch-item.ensures c.branch-cursor.ensures r.0 r.1 r.2 within;
+          (met_of c.mark_met-in-Fork.new.met) _ c.in-Some.bit c.in-Fork.first c.in-Fork.second _ _ _ _ _ fresh here
+          (inserted h.met c.mark_met-in-Fork.new.met h.at c.mark_met-in-Fork.ensures low) c.in-Some.ensures.gives c.branch_item.ensures c.branch-cursor.ensures r.0 r.1 r.2 within;
       here = within;
       keeps = c.take.ensures.keeps;
     }
 
-pub returns-in-ok-hand-2 : goal.returns-in-ok-hand-2
-returns-in-ok-hand-2 g c =
+pub returns-in_ok-hand-in-Read : goal.returns-in_ok-hand-in-Read
+returns-in_ok-hand-in-Read g c =
     let h = c.args.cursor.now in
     let P = c.args.pattern.now in
     let L = g.L.Alphabet.meaning c.args.alphabet.now in
@@ -182,17 +182,17 @@ returns-in-ok-hand-2 g c =
     let s = g.S.Sink.stock c.args.sink.now in
     let fresh = sym c.contains.ensures ∙ c.if-contains.false in
     let here = sym c.in-Read.ensures in
-    let item = reading L c.in-Read.class _ h.read _ c.in-ok-item.ensures in
-    let r = c.in-ok-hand-2.ensures in
+    let item = reading L c.in-Read.class _ h.read _ c.in_ok-item-in-Read.ensures in
+    let r = c.in_ok-hand-in-Read.ensures in
     record {
       steps = turn_read L (graph P) m (end_of P) (end_small P) (leads_within P) (unread h.bits) w (met_of h.met) h.at h.read h.ended q s c.requires.going
-          (met_of c.mark-met-in-Read.new.met) _ c.in-Read.next c.in-Read.class _ _ _ fresh here (cleared c.mark-met-in-Read.new.met c.mark-met-in-Read.ensures) item r.0 r.1 r.2 (read_within P h.at c.in-Read.class _ here);
+          (met_of c.mark_met-in-Read.new.met) _ c.in-Read.next c.in-Read.class _ _ _ fresh here (cleared c.mark_met-in-Read.new.met c.mark_met-in-Read.ensures) item r.0 r.1 r.2 (read_within P h.at c.in-Read.class _ here);
       here = read_within P h.at c.in-Read.class _ here;
       keeps = refl;
     }
 
-pub returns-in-ok-mark-end : goal.returns-in-ok-mark-end
-returns-in-ok-mark-end g c =
+pub returns-in_ok-mark_end-in-End : goal.returns-in_ok-mark_end-in-End
+returns-in_ok-mark_end-in-End g c =
     let h = c.args.cursor.now in
     let P = c.args.pattern.now in
     let L = g.L.Alphabet.meaning c.args.alphabet.now in
@@ -204,7 +204,7 @@ returns-in-ok-mark-end g c =
     let here = sym c.in-End.ensures in
     record {
       steps = turn_end L (graph P) m (end_of P) (end_small P) (leads_within P) (unread h.bits) w (met_of h.met) h.at h.read h.ended q s c.requires.going
-          c.nothing-left.result _ _ _ fresh here c.nothing-left.ensures c.in-ok-mark-end.ensures;
+          c.nothing_left.result _ _ _ fresh here c.nothing_left.ensures c.in_ok-mark_end-in-End.ensures;
       here = c.requires.here;
       keeps = refl;
     }

@@ -13,7 +13,7 @@ returns g c =
     let h = c.begin-cursor.result in
     let e = c.begin-cursor.ensures in
     record {
-      known = subst (λ n. ClassesBelow n (graph P)) c.class-count-count.ensures (c.knows.ensures.known c.if-not-knows.false);
+      known = subst (λ n. ClassesBelow n (graph P)) c.class_count-count.ensures (c.knows.ensures.known c.if-not-knows.false);
       stands = stands_open P c.args.filed.now c.args.symbols.now (unread h.bits) (met_of h.met) h.at h.read h.ended
           e.bits (cleared h.met e.met) (e.at ∙ c.entry.ensures.value) e.read e.ended;
       bytes_are = e.bytes;
@@ -25,4 +25,4 @@ returns g c =
 pub returns-then-not-knows : goal.returns-then-not-knows
 returns-then-not-knows g c =
     let P = c.args.pattern.now in
-    record { unknown = subst (λ n. Unknown n (graph P)) c.class-count-count.ensures (c.knows.ensures.unknown c.if-not-knows.true); fault = refl }
+    record { unknown = subst (λ n. Unknown n (graph P)) c.class_count-count.ensures (c.knows.ensures.unknown c.if-not-knows.true); fault = refl }
