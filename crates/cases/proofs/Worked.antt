@@ -1,5 +1,5 @@
 -- The worked cases, by computing.
-use Rattle.std.proofs.Common.{◌≡◌, ℕ, ◌+◌, ◌*◌, T, ◌⊎◌, List, [], ◌∷◌, ◌++◌, length, negsuc, refl, ap, ◌∙◌}
+use Rattle.std.proofs.Common.{◌≡◌, ℕ, ◌+◌, ◌*◌, T, List, [], ◌∷◌, ◌++◌, length, negsuc, refl, ap, ◌∙◌}
 use Rattle.alphabet.specs.Items.{end_mark}
 use Rattle.alphabet.specs.ByteClasses.{byte_meaning}
 use Rattle.alphabet.specs.Choices.{choices, packed}
@@ -14,11 +14,10 @@ use Rattle.walk.specs.Cases.{two_readings, empty_rounds, text_star}
 use Rattle.walk.proofs.Worked.{list, listed, shares, reads_as, not_accepted}
 use Rattle.walk.proofs.Theorems.{dead_if_empty}
 use Rattle.replay.specs.Bits.{highest, bits_of}
-use Rattle.replay.specs.Tracing.{Verdict, complete, broken, Traces}
-use Rattle.replay.specs.Computed.{trace, told}
-use Rattle.replay.specs.Outcome.{full_answer}
+use Rattle.replay.specs.Tracing.{complete, broken}
+use Rattle.replay.specs.Computed.{trace}
 use Rattle.replay.proofs.Telling.{traced}
-use Rattle.cases.specs.Cases.{digits, text_of, abcd, ab, shared_items, all_items, Reading, Replayed, Worked}
+use Rattle.cases.specs.Cases.{digits, text_of, abcd, ab, shared_items, all_items, Reading, Worked}
 
 -- a reading, from what is computed of it; c is the code without the end mark
 reading : (e : Expr) (w : List ℕ) (c : Code) (n : ℕ) (bits written : List ℕ) → T (listed (size e) c (list e w)) → length (c ++ (end_mark ∷ [])) ≡ n

@@ -11,12 +11,12 @@ use Rattle.pattern.specs.Points.{points, start}
 use Rattle.pattern.specs.Numbers.{shortest}
 use Rattle.pattern.specs.Files.{decoded}
 use Rattle.text.specs.declared.manner.Manner.TheVariants.{Plain}
-use Rattle.text.specs.TextMeaning.{TextPosition, at, text_of_items}
+use Rattle.text.specs.TextMeaning.{at, text_of_items}
 use Rattle.walk.specs.Graphs.{steps, none}
 use Rattle.walk.specs.Codes.{Code}
 use Rattle.walk.specs.Cases.{two_readings, empty_rounds, text_star, Shares, ReadsAs, NotAccepted, Stuck}
 use Rattle.replay.specs.Bits.{bits_of}
-use Rattle.replay.specs.Tracing.{Verdict, complete, broken, Traces}
+use Rattle.replay.specs.Tracing.{Verdict, Traces}
 use Rattle.replay.specs.Outcome.{full_answer, placed}
 
 -- a digit kept, a comma dropped, the text ;, a digit kept

@@ -3,6 +3,7 @@ use crate::command::Outcome;
 use crate::items::{BITS, TEXT, manner_of, print_bytes};
 use crate::reading::{Poured, deliver, pour_both};
 use alphabet::Bytes;
+use anyhow::anyhow;
 use pattern::Pattern;
 use replay::replay;
 use sink::{Bits, Pair};
@@ -42,7 +43,7 @@ fn again(
 // The command: a pattern file, a manner, a file of bits, a file of symbols, and where the rows go (- prints them).
 pub(crate) fn run(rt: &HostRuntime, words: &[String]) -> anyhow::Result<Outcome> {
     let [name, manner, bits, input, rows] = words else {
-        return Err(USAGE.into());
+        return Err(anyhow!("{USAGE}"));
     };
     let manner = manner_of(manner.as_str())?;
     let file = fs::read(rt, name.as_str())?;

@@ -1,5 +1,6 @@
 // The commands of the program.
 use crate::{again, items, reading, show};
+use anyhow::anyhow;
 
 const USAGE: &str =
     "usage: mulzopas show FILE.. | items PATTERN plain|numbered ITEM.. | replay PATTERN plain|numbered BITS INPUT ROWS | read PATTERN plain|numbered INPUT ROWS BITS | batch FILE";
@@ -14,13 +15,13 @@ pub(crate) enum Outcome {
 // Performs one command, given by its words.
 pub(crate) fn perform(rt: &HostRuntime, words: &[String]) -> anyhow::Result<Outcome> {
     let [name, rest @ ..] = words else {
-        return Err(USAGE.into());
+        return Err(anyhow!("{USAGE}"));
     };
     match name.as_str() {
         "show" => show::files(rt, rest),
         "items" => items::run(rt, rest),
         "replay" => again::run(rt, rest),
         "read" => reading::run(rt, rest),
-        _ => Err(USAGE.into()),
+        _ => Err(anyhow!("{USAGE}")),
     }
 }

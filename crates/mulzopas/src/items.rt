@@ -80,7 +80,7 @@ fn hand(
 // The command: a pattern file, a manner, and items as numbers.
 pub(crate) fn run(rt: &HostRuntime, words: &[String]) -> anyhow::Result<Outcome> {
     let [name, manner, rest @ ..] = words else {
-        return Err(USAGE.into());
+        return Err(anyhow!("{USAGE}"));
     };
     let manner = manner_of(manner.as_str())?;
     let mut items = Vec::new(rt.alloc());

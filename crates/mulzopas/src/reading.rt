@@ -2,6 +2,7 @@
 use crate::command::Outcome;
 use crate::items::{BITS, TEXT, manner_of, print_bytes};
 use alphabet::Bytes;
+use anyhow::anyhow;
 use fault::Fault;
 use pattern::Pattern;
 use run::{Finished, Run};
@@ -114,7 +115,7 @@ pub(crate) fn deliver(
 // The command: a pattern file, a manner, an input (- is standard input), and where rows and bits go (- prints them).
 pub(crate) fn run(rt: &HostRuntime, words: &[String]) -> anyhow::Result<Outcome> {
     let [name, manner, input, rows, bits] = words else {
-        return Err(USAGE.into());
+        return Err(anyhow!("{USAGE}"));
     };
     let manner = manner_of(manner.as_str())?;
     let mut pattern = Pattern::new();

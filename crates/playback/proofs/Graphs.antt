@@ -4,7 +4,6 @@ use mathlib.Core.Logic.{∥∥₁_elim}
 use native.Mathlib.Bridge.{le_prop}
 use Rattle.std.proofs.lemmas.Option.{slice_get_past}
 use Rattle.std.proofs.lemmas.Bool.{cases_lt}
-use Rattle.std.specs.List.{slice_get}
 use Rattle.pattern.specs.declared.step.Step.{Step}
 use Rattle.pattern.specs.declared.step.Step.TheVariants.{Read, Pass, Fork, End}
 use Rattle.pattern.specs.declared.point.Point.{Point}

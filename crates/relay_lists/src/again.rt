@@ -4,6 +4,7 @@ use crate::out::{Outlet, Outlets, Voice, tell};
 use crate::symbols::{all_bytes, all_events};
 use crate::words::{Letters, bytes_of, letters_of, load, manner_of};
 use alphabet::{Alphabet, Bytes, Tokens};
+use anyhow::anyhow;
 use fault::{Cause, Fault};
 use pattern::Pattern;
 use playback::Playback;
@@ -11,7 +12,8 @@ use sink::{Bits, Pair, Sink};
 use std::fmt::Display;
 use text::{Manner, Text};
 
-const USAGE: &str = "usage: mulzopas replay PATTERN bytes|tokens plain|numbered INPUT CHOICES ROWS";
+const USAGE: &str =
+    "usage: relay_lists replay PATTERN bytes|tokens plain|numbered INPUT CHOICES ROWS";
 
 // What a replay came to: how many items and symbols, or the refusal.
 #[derive(Clone, Copy)]
@@ -122,7 +124,7 @@ pub(crate) fn tell_replay(
 // The command: a pattern file, an alphabet, a manner, an input (- is standard input), the filed choices, and where rows go (- is standard output).
 pub(crate) fn run(rt: &HostRuntime, words: &[String]) -> anyhow::Result<Outcome> {
     let [name, letters, manner, input, choices, rows] = words else {
-        return Err(USAGE.into());
+        return Err(anyhow!("{USAGE}"));
     };
     let letters = letters_of(letters.as_str())?;
     let manner = manner_of(manner.as_str())?;

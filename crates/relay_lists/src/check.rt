@@ -4,11 +4,12 @@ use crate::command::Outcome;
 use crate::out::{Outlet, Outlets, Voice};
 use crate::reading::{Reading, read_input, tell_end};
 use crate::words::{Letters, bytes_of, letters_of, load, manner_of};
+use anyhow::anyhow;
 use pattern::Pattern;
 use text::Manner;
 
 const USAGE: &str =
-    "usage: mulzopas check PATTERN bytes|tokens plain|numbered INPUT [ROWS CHOICES]";
+    "usage: relay_lists check PATTERN bytes|tokens plain|numbered INPUT [ROWS CHOICES]";
 
 // What a check is made by.
 #[derive(Drop)]
@@ -116,7 +117,7 @@ fn against_filed(
 // The command: a pattern file, an alphabet, a manner, an input, and the rows and choices that were filed, if they are to be compared too.
 pub(crate) fn run(rt: &HostRuntime, words: &[String]) -> anyhow::Result<Outcome> {
     let [name, letters, manner, input, filed @ ..] = words else {
-        return Err(USAGE.into());
+        return Err(anyhow!("{USAGE}"));
     };
     let letters = letters_of(letters.as_str())?;
     let manner = manner_of(manner.as_str())?;
@@ -145,6 +146,6 @@ pub(crate) fn run(rt: &HostRuntime, words: &[String]) -> anyhow::Result<Outcome>
             let choices = bytes_of(rt, choices.as_str())?;
             against_filed(&check, input, &kept.outlets, &rows, &choices)
         }
-        _ => Err(USAGE.into()),
+        _ => Err(anyhow!("{USAGE}")),
     }
 }

@@ -2,13 +2,13 @@
 use crate::{again, check, explain, items, reading, show};
 
 const USAGE: &str = "usage:
-  mulzopas read PATTERN bytes|tokens plain|numbered INPUT ROWS CHOICES
-  mulzopas replay PATTERN bytes|tokens plain|numbered INPUT CHOICES ROWS
-  mulzopas check PATTERN bytes|tokens plain|numbered INPUT [ROWS CHOICES]
-  mulzopas explain PATTERN bytes|tokens plain|numbered INPUT
-  mulzopas show FILE..
-  mulzopas items PATTERN plain|numbered ITEM..
-  mulzopas batch FILE
+  relay_lists read PATTERN bytes|tokens plain|numbered INPUT ROWS CHOICES
+  relay_lists replay PATTERN bytes|tokens plain|numbered INPUT CHOICES ROWS
+  relay_lists check PATTERN bytes|tokens plain|numbered INPUT [ROWS CHOICES]
+  relay_lists explain PATTERN bytes|tokens plain|numbered INPUT
+  relay_lists show FILE..
+  relay_lists items PATTERN plain|numbered ITEM..
+  relay_lists batch FILE
 An input - is standard input, rows - are standard output.";
 
 // What came of a command: it was done, or it was refused, which was told on a line.

@@ -15,7 +15,7 @@ use std::alloc::Global;
 use std::io;
 use text::Text;
 
-const USAGE: &str = "usage: mulzopas explain PATTERN bytes|tokens plain|numbered INPUT";
+const USAGE: &str = "usage: relay_lists explain PATTERN bytes|tokens plain|numbered INPUT";
 
 // Where in an input: after so many symbols, in which line and column, each from 1.
 #[derive(Clone, Copy)]
@@ -207,7 +207,7 @@ fn refused(rt: &HostRuntime, fault: Fault) -> anyhow::Result<Outcome> {
 // The command: a pattern file, an alphabet, a manner and an input.
 pub(crate) fn run(rt: &HostRuntime, words: &[String]) -> anyhow::Result<Outcome> {
     let [name, letters, manner, input] = words else {
-        return Err(USAGE.into());
+        return Err(anyhow!("{USAGE}"));
     };
     let letters = letters_of(letters.as_str())?;
     let mut pattern = Pattern::new();

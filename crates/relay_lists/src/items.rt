@@ -3,12 +3,13 @@ use crate::command::Outcome;
 use crate::out::{CHOICES, ROWS};
 use crate::show::print_text;
 use crate::words::{load, manner_of};
+use anyhow::anyhow;
 use pattern::Pattern;
 use sink::{Bits, Pair, STOCK_BYTES, Sink, hand_over};
 use std::io;
 use text::{Manner, Text};
 
-const USAGE: &str = "usage: mulzopas items PATTERN plain|numbered ITEM..";
+const USAGE: &str = "usage: relay_lists items PATTERN plain|numbered ITEM..";
 
 // What a channel held: the text in quotes, bits in hexadecimal digits.
 pub(crate) fn print_bytes(rt: &HostRuntime, channel: u32, bytes: &[u8]) -> io::Result<()> {
@@ -67,7 +68,7 @@ fn hand(
 // The command: a pattern file, a manner, and items as numbers.
 pub(crate) fn run(rt: &HostRuntime, words: &[String]) -> anyhow::Result<Outcome> {
     let [name, manner, rest @ ..] = words else {
-        return Err(USAGE.into());
+        return Err(anyhow!("{USAGE}"));
     };
     let manner = manner_of(manner.as_str())?;
     let mut items = Vec::new(rt.alloc());

@@ -1,17 +1,17 @@
 // The reading kit's program.
 //
-//     mulzopas read PATTERN bytes|tokens plain|numbered INPUT ROWS CHOICES
+//     relay_lists read PATTERN bytes|tokens plain|numbered INPUT ROWS CHOICES
 //                              reads the input as it arrives; writes the rows and the choices
-//     mulzopas replay PATTERN bytes|tokens plain|numbered INPUT CHOICES ROWS
+//     relay_lists replay PATTERN bytes|tokens plain|numbered INPUT CHOICES ROWS
 //                              reads the input again by its filed choices, and writes the rows
-//     mulzopas check PATTERN bytes|tokens plain|numbered INPUT [ROWS CHOICES]
+//     relay_lists check PATTERN bytes|tokens plain|numbered INPUT [ROWS CHOICES]
 //                              reads the input, replays the choices and compares the rows, and those that were filed
-//     mulzopas explain PATTERN bytes|tokens plain|numbered INPUT
+//     relay_lists explain PATTERN bytes|tokens plain|numbered INPUT
 //                              prints each choice of the reading, where it was taken, and what was written
-//     mulzopas show FILE..     prints each pattern file's points, or why it is refused
-//     mulzopas items PATTERN plain|numbered ITEM..
+//     relay_lists show FILE..     prints each pattern file's points, or why it is refused
+//     relay_lists items PATTERN plain|numbered ITEM..
 //                              hands the items to a pair of sinks, bits and text, and prints what each received
-//     mulzopas batch FILE      runs each line of the file as a command
+//     relay_lists batch FILE      runs each line of the file as a command
 //
 // An input - is standard input, rows - are standard output; what was done is then told on standard error.
 #![tactic(auto)]

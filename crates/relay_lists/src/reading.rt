@@ -4,6 +4,7 @@ use crate::out::{Outlet, Outlets, Voice, tell};
 use crate::source::{ByteSource, EventSource, Input, Source};
 use crate::words::{Letters, letters_of, load, manner_of};
 use alphabet::{Alphabet, Bytes, Tokens};
+use anyhow::anyhow;
 use fault::Fault;
 use pattern::Pattern;
 use run::{Finished, Run};
@@ -11,7 +12,8 @@ use sink::{Bits, Pair, Sink};
 use std::fmt::Display;
 use text::{Manner, Text};
 
-const USAGE: &str = "usage: mulzopas read PATTERN bytes|tokens plain|numbered INPUT ROWS CHOICES";
+const USAGE: &str =
+    "usage: relay_lists read PATTERN bytes|tokens plain|numbered INPUT ROWS CHOICES";
 
 // How many symbols are fed at once. The stocks are poured after each such piece.
 const PIECE: usize = 64;
@@ -198,7 +200,7 @@ pub(crate) fn tell_end(
 // The command: a pattern file, an alphabet, a manner, an input (- is standard input), where rows go (- is standard output) and where choices go.
 pub(crate) fn run(rt: &HostRuntime, words: &[String]) -> anyhow::Result<Outcome> {
     let [name, letters, manner, input, rows, choices] = words else {
-        return Err(USAGE.into());
+        return Err(anyhow!("{USAGE}"));
     };
     let letters = letters_of(letters.as_str())?;
     let manner = manner_of(manner.as_str())?;

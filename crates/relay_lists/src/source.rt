@@ -142,7 +142,7 @@ impl EventSource {
         let text = format!(in self.heap;
             "line {number} is no event: a kind from 0 to 15, a space, a value from -2048 to 2047"
         )?;
-        Ok(text.into())
+        Ok(anyhow!("{text}"))
     }
 }
 

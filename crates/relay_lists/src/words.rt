@@ -35,7 +35,7 @@ pub(crate) fn manner_of(name: &str) -> anyhow::Result<Manner> {
 // An error with the name of the file that it is about.
 pub(crate) fn about(heap: Global, name: &str, error: io::Error) -> anyhow::Error {
     match format!(in heap; "{name}: {error}") {
-        Ok(text) => text.into(),
+        Ok(text) => anyhow!("{text}"),
         Err(_) => error.into(),
     }
 }

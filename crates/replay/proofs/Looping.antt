@@ -1,5 +1,5 @@
 -- A replay, point after point.
-use Rattle.std.proofs.Common.{◌≡◌, ℕ, ◌+◌, ◌-◌, ◌*◌, ◌<◌, ◌≤◌, Bool, true, false, List, length, Ok, Err, Result, sym, refl, ap, ◌∙◌, subst, inl, inr, arith}
+use Rattle.std.proofs.Common.{◌≡◌, ℕ, ◌+◌, ◌*◌, ◌<◌, ◌≤◌, Bool, true, false, List, length, Ok, Err, Result, sym, refl, ap, ◌∙◌, subst, inl, inr, arith}
 use Rattle.std.proofs.lemmas.Bool.{cases_lt}
 use Rattle.fault.specs.declared.refusal.Fault.{Fault}
 use Rattle.fault.specs.declared.cause.Cause.TheVariants.{NotAWalk, UnknownClass}
@@ -9,7 +9,7 @@ use Rattle.pattern.specs.declared.step.Step.TheVariants.{Read}
 use Rattle.pattern.specs.declared.pattern.Pattern.{Pattern}
 use Rattle.walk.specs.Graphs.{Points, none, ClassesBelow}
 use Rattle.walk.specs.Codes.{Code}
-use Rattle.walk.proofs.Fuel.{left, left_bound}
+use Rattle.walk.proofs.Fuel.{left_bound}
 use Rattle.sink.specs.Meaning.{Meaning, Stocks}
 use Rattle.sink.specs.Handing.{hand_answer}
 use Rattle.sink.specs.Writing.{taken_items}

@@ -1,5 +1,5 @@
 -- The ways in which one point of a replay is worked.
-use Rattle.std.proofs.Common.{◌≡◌, ℕ, zero, suc, ◌+◌, ◌-◌, ◌*◌, ◌<◌, ◌≤◌, Bool, true, false, cond, ◌&&◌, eqb, leb, ◌↔◌, List, [], ◌∷◌, length, get_or, take, drop, set, replicate, is_ok, Some, None, Ok, Err, Result, sym, refl, ap, ◌∙◌, subst, ap₂, arith, eqb→eq, get_or-set_other, get_or-set_same}
+use Rattle.std.proofs.Common.{◌≡◌, ℕ, zero, suc, ◌+◌, ◌*◌, ◌<◌, ◌≤◌, Bool, true, false, cond, ◌&&◌, eqb, leb, ◌↔◌, List, [], ◌∷◌, length, get_or, take, drop, set, replicate, is_ok, Some, None, Ok, Err, Result, sym, refl, ap, ◌∙◌, subst, ap₂, arith, eqb→eq, get_or-set_other, get_or-set_same}
 use mathlib.Core.Path.{fun_ext}
 use lib.Dec.{eqb_refl}
 use Rattle.std.proofs.lemmas.List.{drop_all, drop_more}
@@ -17,7 +17,7 @@ use Rattle.point_set.proofs.Digits.{length_flags}
 use Rattle.walk.specs.Graphs.{Points, none, add}
 use Rattle.walk.specs.Codes.{Code}
 use Rattle.walk.proofs.Order.{T_true, never_both}
-use Rattle.walk.proofs.Fuel.{left, left_add, left_bound}
+use Rattle.walk.proofs.Fuel.{left_add, left_bound}
 use Rattle.sink.specs.Meaning.{Meaning, Stocks, take_answer, grown}
 use Rattle.sink.specs.Handing.{moved_by, grown_by, taken_count, hand_answer}
 use Rattle.sink.specs.Writing.{taken_items}

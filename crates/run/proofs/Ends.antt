@@ -1,27 +1,25 @@
 -- The opening, the finish, and the number of live walks.
-use Rattle.std.proofs.Common.{◌≡◌, ℕ, ◌+◌, ◌<◌, ◌≤◌, Bool, true, false, ◌↔◌, List, [], ◌∷◌, ◌++◌, length, get_or, Some, None, Ok, Err, Option, Result, sym, refl, ap, ◌∙◌, subst, inl, inr, append_assoc, append-nil, arith, length-append}
+use Rattle.std.proofs.Common.{◌≡◌, ℕ, ◌+◌, Bool, true, false, List, [], ◌∷◌, ◌++◌, length, Some, None, Ok, Err, Option, Result, sym, refl, ap, ◌∙◌, subst, inl, inr, append_assoc, arith, length-append}
 use Rattle.std.proofs.lemmas.Bool.{both_ways}
 use Rattle.fault.specs.declared.refusal.Fault.{Fault}
 use Rattle.fault.specs.declared.cause.Cause.TheVariants.{UnknownClass, NotAccepted}
 use Rattle.alphabet.specs.Meaning.{Meaning}
-use Rattle.alphabet.specs.Items.{end_mark}
 use Rattle.pattern.specs.declared.pattern.Pattern.{Pattern}
 use Rattle.point_set.specs.declared.set.PointSet.{PointSet}
 use Rattle.point_set.specs.Flags.{tally}
 use Rattle.point_set.specs.Members.{members, point_count}
 use Rattle.sink.specs.Meaning.{Meaning as Sink-meaning}
 use Rattle.walk.specs.Codes.{Code}
-use Rattle.reader.specs.declared.state.Core.{Core}
 use Rattle.reader.specs.declared.stop.Stop.{Stop}
 use Rattle.reader.specs.Reading.{StateOf as Reading-of}
 use Rattle.reader.specs.Calls.{Finishes, Finished as Answered-at, ShowsLive}
 use Rattle.run.specs.declared.finished.Finished.{Finished}
 use Rattle.walk.specs.Graphs.{ClassesBelow}
 use Rattle.run.specs.Words.{graph_of, Known, Unknown, Accepts, CodesAs}
-use Rattle.run.specs.Sinks.{Standing, Stopped}
+use Rattle.run.specs.Sinks.{Standing}
 use Rattle.std.specs.Result.{result_err}
 use Rattle.run.specs.Giving.{Gives}
-use Rattle.run.specs.Stages.{Stage, Stands, fault_at, Closed, Finishing}
+use Rattle.run.specs.Stages.{Stage, fault_at, Finishing}
 use Rattle.run.specs.Inner.{Inner, StateOf, Opens, Closes, CountsLive, LiveTold, Beyond, accepted_in}
 use Rattle.run.proofs.Patterned.{hopeful}
 use Rattle.run.proofs.Standings.{never_none, live_of, stands_open, stands_failed, stands_nothing}

@@ -1,5 +1,5 @@
 -- Feeds put together.
-use Rattle.std.proofs.Common.{◌≡◌, ℕ, suc, ◌+◌, ◌-◌, ◌<◌, ◌≤◌, Bool, true, false, cond, List, [], ◌∷◌, ◌++◌, map, length, get_or, take, drop, is_ok, Some, None, Ok, Err, Option, Result, sym, refl, ap, ◌∙◌, subst, ap₂, inl, inr, append_assoc, append-nil, add-one, arith, take-suc}
+use Rattle.std.proofs.Common.{◌≡◌, ℕ, suc, ◌+◌, ◌-◌, ◌<◌, true, cond, List, [], ◌∷◌, ◌++◌, map, length, get_or, take, drop, is_ok, Some, None, Ok, Err, Option, Result, sym, refl, ap, ◌∙◌, subst, ap₂, inl, inr, append_assoc, append-nil, add-one, arith, take-suc}
 use mathlib.Core.List.{map-append}
 use lib.Seq.{split_at}
 use Rattle.fault.specs.declared.refusal.Fault.{Fault}
@@ -11,8 +11,8 @@ use Rattle.sink.proofs.Handings.{moved_by_append, grown_by_append}
 use Rattle.walk.specs.Codes.{Code}
 use Rattle.reader.specs.Seen.{see, every}
 use Rattle.run.specs.Sinks.{Standing, after_items, Takes}
-use Rattle.run.specs.Stages.{Stage, AllReadable, FedEnded, FedOpen, Fed, told}
-use Rattle.run.specs.Inner.{Inner, StateOf, Leads, FeedsOpen, Feeds}
+use Rattle.run.specs.Stages.{Stage, AllReadable, FedEnded, told}
+use Rattle.run.specs.Inner.{Inner, FeedsOpen, Feeds}
 use Rattle.run.proofs.Standings.{never_none}
 
 module _ (K : Sink-meaning) where

@@ -1,11 +1,11 @@
 -- Items handed over one after another, by how many are taken.
-use Rattle.std.proofs.Common.{◌≡◌, ℕ, suc, ◌+◌, ◌≤◌, Bool, true, false, cond, List, [], ◌∷◌, ◌++◌, length, take, is_ok, Ok, Err, Result, sym, refl, ap, ◌∙◌, subst, ap₂, arith, length-append}
+use Rattle.std.proofs.Common.{◌≡◌, ℕ, suc, ◌≤◌, Bool, true, false, cond, [], ◌∷◌, length, take, is_ok, Ok, Err, Result, sym, refl, ap, ◌∙◌, subst, ap₂, arith}
 use Rattle.fault.specs.declared.refusal.Fault.{Fault}
 use Rattle.fault.specs.declared.cause.Cause.TheVariants.{NotExpected, ChannelFull}
 use Rattle.sink.specs.Meaning.{Meaning, Stocks, fits, take_answer, grown, sink_fault}
 use Rattle.sink.specs.Handing.{moved_by, grown_by, taken_count, hand_answer, all_taken}
 use Rattle.walk.specs.Codes.{Code}
-use Rattle.run.specs.Sinks.{Standing, after_items, Takes, Stopped}
+use Rattle.run.specs.Sinks.{Standing, after_items}
 use Rattle.run.specs.Giving.{stand, placed, GivenEnded, Gives}
 
 module _ (K : Meaning) where

@@ -1,13 +1,13 @@
 -- The stage that a run always has.
-use Rattle.std.proofs.Common.{◌≡◌, ℕ, ◌<◌, Bool, true, List, [], Result, sym, refl, ap, ◌∙◌, subst}
+use Rattle.std.proofs.Common.{◌≡◌, ℕ, true, List, [], Result, sym, refl, subst}
 use mathlib.Core.Logic.{∥∥₁_map}
 use Rattle.fault.specs.declared.refusal.Fault.{Fault}
 use Rattle.alphabet.specs.Meaning.{Meaning}
 use Rattle.pattern.specs.declared.pattern.Pattern.{Pattern}
-use Rattle.sink.specs.Meaning.{Meaning as Sink-meaning, Stocks}
+use Rattle.sink.specs.Meaning.{Meaning as Sink-meaning}
 use Rattle.reader.specs.Seen.{Seen, every}
 use Rattle.run.specs.Sinks.{Standing}
-use Rattle.run.specs.Stages.{Stage, Stands}
+use Rattle.run.specs.Stages.{Stage}
 use Rattle.run.specs.Performed.{with_sink}
 use Rattle.run.specs.Inner.{Inner, StateOf, Leads, Feeds, Held}
 use Rattle.run.proofs.Steps.{Inhabited}

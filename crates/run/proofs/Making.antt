@@ -1,5 +1,5 @@
 -- Calls put together.
-use Rattle.std.proofs.Common.{◌≡◌, ℕ, zero, suc, ◌+◌, ◌<◌, ◌≤◌, Bool, true, false, cond, List, [], ◌∷◌, ◌++◌, length, get_or, take, set, is_ok, Some, None, Option, Result, sym, refl, ap, ◌∙◌, subst, ap₂, add-zero, zero-add, add-one, arith, length-take-le, take-suc, Bor}
+use Rattle.std.proofs.Common.{◌≡◌, ℕ, suc, ◌+◌, ◌<◌, Bool, true, false, cond, List, [], ◌∷◌, ◌++◌, length, get_or, take, set, is_ok, Some, None, Option, Result, sym, refl, ap, ◌∙◌, subst, ap₂, add-zero, zero-add, add-one, arith, length-take-le, take-suc, Bor}
 use lib.Seq.{sets}
 use Rattle.fault.specs.declared.refusal.Fault.{Fault}
 use Rattle.alphabet.specs.Meaning.{Meaning}
@@ -12,9 +12,9 @@ use Rattle.run.specs.declared.calls.Answer.TheVariants.{Fed as Fed-answer, Poure
 use Rattle.run.specs.declared.finished.Finished.{Finished}
 use Rattle.run.specs.Sinks.{Standing}
 use Rattle.run.specs.Giving.{stand}
-use Rattle.run.specs.Stages.{Stage, Stands, Fed, Opened, Closed}
-use Rattle.run.specs.Performed.{with_sink, after_pour, Poured, Done, Through, Ends, Reads}
-use Rattle.run.specs.Inner.{Inner, StateOf, Leads, Feeds, Opens, Closes}
+use Rattle.run.specs.Stages.{Stage, Stands}
+use Rattle.run.specs.Performed.{with_sink, after_pour, Done, Through, Ends, Reads}
+use Rattle.run.specs.Inner.{Inner, StateOf, Feeds, Opens, Closes}
 use Rattle.run.specs.Calls.{Makes, MakesAll}
 use Rattle.run.proofs.Kept.{state_with}
 

@@ -1,5 +1,5 @@
 -- What walks say at the points of a pattern, which come from some expression.
-use Rattle.std.proofs.Common.{◌≡◌, ℕ, suc, ◌+◌, ◌<◌, ◌≤◌, true, List, [], ◌∷◌, ◌++◌, length, sym, refl, ap, ◌∙◌, subst, arith}
+use Rattle.std.proofs.Common.{◌≡◌, ℕ, suc, ◌<◌, true, List, [], ◌∷◌, ◌++◌, length, sym, refl, ap, subst, arith}
 use native.Mathlib.Bridge.{le_prop}
 use native.Mathlib.Decide.{dec_lt}
 use mathlib.Core.Logic.{∥∥₁_elim, ∥∥₁_map}
@@ -16,7 +16,7 @@ use Rattle.pattern.specs.declared.point.Point.{Point}
 use Rattle.pattern.proofs.Tables.{length_table}
 use Rattle.walk.specs.Graphs.{rests, steps, ClassesBelow}
 use Rattle.walk.specs.Codes.{Code}
-use Rattle.walk.specs.Walks.{Live, NoLive, Accepted, Dead}
+use Rattle.walk.specs.Walks.{Live, NoLive, Accepted}
 use Rattle.walk.proofs.Laying.{To}
 use Rattle.walk.proofs.Routes.{allowed_live, dead_none, live_goes_on, steps_inside, start_inside}
 use Rattle.run.specs.Words.{graph_of, end_of, Known, Lives, Accepts, CodesAs, Hopeless, Hopeful}

@@ -1,5 +1,5 @@
 -- Stages that stand.
-use Rattle.std.proofs.Common.{◌≡◌, ℕ, suc, ◌+◌, ◌<◌, ◌≤◌, true, List, [], ◌∷◌, ◌++◌, length, Some, None, Option, sym, refl, ap, ◌∙◌, subst, inl, append_assoc, append-nil, arith, length-append}
+use Rattle.std.proofs.Common.{◌≡◌, ℕ, ◌<◌, List, [], ◌∷◌, ◌++◌, length, Some, None, Option, sym, refl, ap, ◌∙◌, subst, inl, append_assoc, append-nil, arith, length-append}
 use Rattle.fault.specs.declared.refusal.Fault.{Fault}
 use Rattle.alphabet.specs.Meaning.{Meaning}
 use Rattle.pattern.specs.declared.pattern.Pattern.{Pattern}
@@ -12,10 +12,10 @@ use Rattle.walk.proofs.Sharing.{begins_both}
 use Rattle.walk.proofs.Ends.{shared_begins}
 use Rattle.reader.specs.declared.state.Core.{Core}
 use Rattle.reader.specs.Reading.{StateOf as Reading-of, TooBig}
-use Rattle.run.specs.Words.{graph_of, end_of, Known, Lives, Shares, Accepts, CodesAs, Hopeful}
+use Rattle.run.specs.Words.{graph_of, end_of, Lives, Shares, Accepts, CodesAs, Hopeful}
 use Rattle.run.specs.Sinks.{Standing}
-use Rattle.run.specs.Stages.{Stage, Stands}
-use Rattle.run.proofs.Patterned.{greedy_of, hopeful}
+use Rattle.run.specs.Stages.{Stands}
+use Rattle.run.proofs.Patterned.{greedy_of}
 
 pub never_none : {X B : Type 0} (o : Option X) (x : X) → o ≡ Some x → o ≡ None → B
 never_none o x p q = let z : ◌≡◌ {A = ℕ} 0 1 = cc in absurd (omega arith)

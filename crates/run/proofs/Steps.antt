@@ -1,5 +1,5 @@
 -- One symbol, by the ways that the step can end.
-use Rattle.std.proofs.Common.{◌≡◌, ℕ, suc, ◌+◌, ◌<◌, ◌≤◌, true, List, [], ◌∷◌, ◌++◌, length, Some, None, Ok, Err, Option, Result, sym, refl, ap, ◌∙◌, subst, inl, inr, append_assoc, append-nil, arith, length-append}
+use Rattle.std.proofs.Common.{◌≡◌, ℕ, ◌+◌, ◌<◌, true, List, [], ◌∷◌, ◌++◌, length, Some, None, Ok, Err, Option, Result, sym, refl, ap, ◌∙◌, subst, inl, inr, append_assoc, append-nil, arith, length-append}
 use Rattle.fault.specs.declared.refusal.Fault.{Fault}
 use Rattle.fault.specs.declared.cause.Cause.TheVariants.{LengthLimit}
 use Rattle.alphabet.specs.Meaning.{Meaning}
@@ -12,10 +12,10 @@ use Rattle.reader.specs.declared.stop.Stop.TheVariants.{Dead, TreeFull}
 use Rattle.reader.specs.Reading.{StateOf as Reading-of, Advances}
 use Rattle.run.specs.Limits.{length_limit}
 use Rattle.run.specs.Words.{Hopeful}
-use Rattle.run.specs.Sinks.{Standing, Stopped}
+use Rattle.run.specs.Sinks.{Standing}
 use Rattle.std.specs.Result.{result_err}
 use Rattle.run.specs.Giving.{Gives}
-use Rattle.run.specs.Stages.{Stage, Stands, Due, Readable, FedOpen, fault_at, told}
+use Rattle.run.specs.Stages.{Stage, Due, Readable, FedOpen, fault_at, told}
 use Rattle.run.specs.Inner.{Inner, StateOf, Leads, FeedsOpen, cause_of}
 use Rattle.run.proofs.Patterned.{hopeless, hopeful}
 use Rattle.run.proofs.Standings.{never_none, live_of, live_big, stands_open, stands_failed}

@@ -1,5 +1,5 @@
 -- A sink as a run finds it: where it stands, and what taking items in turn makes of it. K is what the sink means. Assumes nothing.
-use Rattle.std.specs.Prelude.{◌≡◌, ℕ, true, List, ◌∷◌, ◌++◌, Err}
+use Rattle.std.specs.Prelude.{◌≡◌, ℕ, true, ◌∷◌, ◌++◌, Err}
 use Rattle.fault.specs.declared.refusal.Fault.{Fault}
 use Rattle.sink.specs.Meaning.{Meaning, Stocks, take_answer, sink_fault}
 use Rattle.sink.specs.Handing.{moved_by, grown_by, all_taken}

@@ -1,4 +1,4 @@
-use Rattle.std.proofs.Common.{drop, Err, sym, ap, ◌∙◌}
+use Rattle.std.proofs.Common.{Err, sym, ap, ◌∙◌}
 use Rattle.std.proofs.lemmas.List.{drop_all}
 use Rattle.replay.specs.Stepping.{next_item}
 use Rattle.replay.proofs.Turning.{item_some, item_none}

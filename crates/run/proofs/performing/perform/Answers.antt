@@ -1,4 +1,4 @@
-use Rattle.std.proofs.Common.{◌≡◌, sym, refl, ap, ◌∙◌}
+use Rattle.std.proofs.Common.{ap, ◌∙◌}
 use Rattle.run.proofs.Making.{reads_all, ends_closed, ends_open, all_as, closes_as}
 use Rattle.run.proofs.performing.perform.Goals as goal
 

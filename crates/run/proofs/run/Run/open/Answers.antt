@@ -1,6 +1,3 @@
-use Rattle.std.proofs.Common.{◌≡◌, sym, subst}
-use Rattle.pattern.specs.declared.pattern.Pattern.{Pattern}
-use Rattle.run.specs.Inner.{Held}
 use Rattle.run.proofs.Kept.{held_at}
 use Rattle.run.proofs.run.Run.open.Goals as goal
 

@@ -1,4 +1,4 @@
-use Rattle.std.proofs.Common.{◌≡◌, sym, refl, ap, ◌∙◌}
+use Rattle.std.proofs.Common.{refl}
 use Rattle.reader.specs.Seen.{every}
 use Rattle.run.proofs.Ends.{state_refused, open_refused, open_given, known_at, unknown_at}
 use Rattle.run.proofs.Kept.{nowhere, every_inhabited, held_led}

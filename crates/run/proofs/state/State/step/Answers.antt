@@ -1,5 +1,5 @@
-use Rattle.std.proofs.Common.{◌≡◌, Some, sym, refl, ap, ◌∙◌, arith}
-use Rattle.reader.specs.Seen.{every, see}
+use Rattle.std.proofs.Common.{Some, refl, ap, ◌∙◌, arith}
+use Rattle.reader.specs.Seen.{every}
 use Rattle.run.specs.Stages.{fault_at}
 use Rattle.run.proofs.Steps.{at_limit, stopped_by, symbol_read, told_err, told_fault}
 use Rattle.run.proofs.Kept.{every_inhabited}

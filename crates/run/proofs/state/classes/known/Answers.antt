@@ -1,4 +1,4 @@
-use Rattle.std.proofs.Common.{◌≡◌, ◌<◌, true, false, refl, arith, below_more}
+use Rattle.std.proofs.Common.{◌<◌, true, refl, arith, below_more}
 use Rattle.std.proofs.lemmas.Bool.{both_ways}
 use Rattle.run.specs.Inner.{ReadsBelow}
 use Rattle.run.proofs.Patterned.{reads_here}
