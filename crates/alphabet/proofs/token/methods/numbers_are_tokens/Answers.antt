@@ -1,4 +1,4 @@
-use Rattle.alphabet.specs.Numbers.{numbers}
+use Rattle.alphabet.proofs.Numbers.{numbers}
 use Rattle.alphabet.proofs.token.methods.numbers_are_tokens.Goals as goal
 
 pub returns : goal.returns
