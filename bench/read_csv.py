@@ -6,7 +6,7 @@ expressions (a compiled library with captures) in the same run, checks that the 
 are equal, and prints nanoseconds of processor time for each symbol, the ratio of the
 two, and the peak memory of the program on this CSV and on one eight times as long.
 
-    rt check mulzopas && bench/read_csv.py [SYMBOLS]
+    (cd crates/relay_lists && rt run >/dev/null) ; bench/read_csv.py [SYMBOLS]
 """
 
 import os
@@ -16,8 +16,8 @@ import tempfile
 import time
 
 ROOT = os.path.dirname(os.path.dirname(os.path.abspath(__file__)))
-PROGRAM = os.path.join(ROOT, "target", "bin", "mulzopas")
-PATTERN = os.path.join(ROOT, "crates", "mulzopas", "data", "trips.pat")
+PROGRAM = os.path.join(ROOT, "crates", "relay_lists", "out", "relay_lists")
+PATTERN = os.path.join(ROOT, "crates", "relay_lists", "data", "trips.pat")
 ROUNDS = 3
 
 

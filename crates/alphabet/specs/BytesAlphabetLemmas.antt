@@ -1,4 +1,5 @@
-use Rattle.std.specs.Prelude.{◌≡◌, ℕ, ◌<◌, ◌≤◌, true, ◌≢◌}
+-- The law of bytes. A class of one byte has that byte, the letters have A, and each other class has the digit 0.
+use Rattle.std.specs.Prelude.{◌≡◌, ℕ, ◌<◌, ◌≤◌, true, false, ◌≢◌}
 use Rattle.std.proofs.Common.{inl, inr, arith}
 use Rattle.std.proofs.lemmas.Bool.{cases_lt, cases_eq}
 use Rattle.std.proofs.lemmas.Bool.Decides.{nat_tests}
@@ -23,3 +24,6 @@ full c h =
 
 pub small : (c s : ℕ) → byte_in c s ≡ true → s ≤ largest_number
 small c s h = grind (arith, nat_tests)
+
+pub none : (c s : ℕ) → byte_classes ≤ c → byte_in c s ≡ false
+none c s h = grind (arith, nat_tests)

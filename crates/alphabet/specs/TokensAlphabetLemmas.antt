@@ -1,14 +1,21 @@
-use Rattle.std.specs.Prelude.{◌≡◌, ℕ, ◌-◌, ◌<◌, ◌≤◌, true, negsuc}
+-- The law of relay events. Each class has a token of the value -1: of kind c, of kind c - 16, or any.
+use Rattle.std.specs.Prelude.{◌≡◌, ℕ, ◌-◌, ◌<◌, ◌≤◌, true, false, negsuc, ◌≤ℤ◌}
 use Rattle.std.proofs.Common.{inl, inr, arith}
 use Rattle.std.proofs.lemmas.Int.{ints}
 use Rattle.std.proofs.lemmas.Bool.{cases_lt}
 use Rattle.std.proofs.lemmas.Bool.Decides.{nat_tests}
 use Rattle.alphabet.specs.declared.token.Token.{Token}
-use Rattle.alphabet.specs.Bounds.{last_kind, kind_count}
+use Rattle.alphabet.specs.Bounds.{last_kind, kind_count, least_value, greatest_value}
 use Rattle.alphabet.specs.TokenClasses.{any_token, token_classes, token_in}
 
+pub least_below : least_value ≤ℤ negsuc 0
+least_below = omega (arith, ints)
+
+pub greatest_above : negsuc 0 ≤ℤ greatest_value
+greatest_above = omega (arith, ints)
+
 abbrev pub minus_one : (k : ℕ) → k ≤ last_kind → Token
-minus_one k h = record { kind = k; value = negsuc 0; listed = h; lowest = omega (arith, ints); highest = omega (arith, ints) }
+minus_one k h = record { kind = k; value = negsuc 0; listed = h; lowest = least_below; highest = greatest_above }
 
 pub of_kind : (c : ℕ) (h : c ≤ last_kind) → token_in c (minus_one c h) ≡ true
 of_kind c h = grind (arith, nat_tests)
@@ -29,3 +36,6 @@ full c h =
             | inr n ↦ (minus_one 0 (omega arith), any c (omega arith) n h)
           ]
     ]
+
+pub none : (c : ℕ) (s : Token) → token_classes ≤ c → token_in c s ≡ false
+none c s h = grind (arith, nat_tests)

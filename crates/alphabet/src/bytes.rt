@@ -1,7 +1,5 @@
 ghost use Rattle.alphabet.specs.ByteClasses.{byte_meaning};
-ghost use Rattle.std.proofs.Common.{arith};
-ghost use Rattle.std.proofs.lemmas.Bool.Decides.{nat_tests};
-ghost use Rattle.alphabet.specs.BytesAlphabetLemmas.{full, small};
+ghost use Rattle.alphabet.specs.BytesAlphabetLemmas.{full, none, small};
 
 use super::Alphabet;
 
@@ -34,7 +32,7 @@ impl Alphabet for Bytes {
 
     ghost meaning = { λ _. byte_meaning };
 
-    ghost lawful = { λ a. record { inhabited = full; bounded = λ c s h. Prim.grind (arith, nat_tests); small = small } };
+    ghost lawful = { λ a. record { inhabited = full; bounded = none; small = small } };
 
     fn class_count(&self) -> u32 {
         Bytes::CLASSES

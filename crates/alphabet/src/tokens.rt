@@ -1,8 +1,6 @@
 ghost use Rattle.alphabet.specs.TokenClasses.{token_meaning};
-ghost use Rattle.std.proofs.Common.{arith};
-ghost use Rattle.std.proofs.lemmas.Bool.Decides.{nat_tests};
 ghost use Rattle.alphabet.specs.Numbers.{number_within};
-ghost use Rattle.alphabet.specs.TokensAlphabetLemmas.{full};
+ghost use Rattle.alphabet.specs.TokensAlphabetLemmas.{full, none};
 
 use super::bounds::LAST_KIND;
 use super::{Alphabet, Token};
@@ -27,7 +25,7 @@ impl Alphabet for Tokens {
 
     ghost meaning = { λ _. token_meaning };
 
-    ghost lawful = { λ a. record { inhabited = full; bounded = λ c s h. Prim.grind (arith, nat_tests); small = λ c s h. number_within s } };
+    ghost lawful = { λ a. record { inhabited = full; bounded = none; small = λ c s h. number_within s } };
 
     fn class_count(&self) -> u32 {
         Tokens::CLASSES

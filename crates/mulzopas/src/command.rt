@@ -12,16 +12,22 @@ pub(crate) enum Outcome {
     Refused,
 }
 
+// Tells how the program is called, on standard error: an error's own text has room for 120 bytes.
+fn wrong_words(rt: &HostRuntime) -> anyhow::Result<Outcome> {
+    eprintln!(rt; "{USAGE}")?;
+    Err(anyhow!("the words are wrong"))
+}
+
 // Performs one command, given by its words.
 pub(crate) fn perform(rt: &HostRuntime, words: &[String]) -> anyhow::Result<Outcome> {
     let [name, rest @ ..] = words else {
-        return Err(anyhow!("{USAGE}"));
+        return wrong_words(rt);
     };
     match name.as_str() {
         "show" => show::files(rt, rest),
         "items" => items::run(rt, rest),
         "replay" => again::run(rt, rest),
         "read" => reading::run(rt, rest),
-        _ => Err(anyhow!("{USAGE}")),
+        _ => wrong_words(rt),
     }
 }

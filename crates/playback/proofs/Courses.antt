@@ -10,8 +10,8 @@ use Rattle.walk.proofs.Order.{never_both}
 use Rattle.sink.specs.Meaning.{Meaning, Stocks}
 use Rattle.playback.specs.declared.played.Played.{Played}
 use Rattle.playback.specs.declared.played.Played.TheVariants as played
-use Rattle.playback.specs.Tracing.{Verdict, complete, broken}
-use Rattle.playback.specs.Outcome.{graph, placed, reads_in}
+use Rattle.replay.specs.Tracing.{Verdict, complete, broken}
+use Rattle.replay.specs.Outcome.{graph, placed, reads_in}
 use Rattle.playback.specs.Playing.{Stand, opened, LeftBy, Left, LeftSome, Tells, HandsOver, Breaks, Refuses, Plays}
 use Rattle.playback.specs.Courses.{items_of, Course, still, call, PlaybackAgrees, BreaksForGood, ItemStays}
 use Rattle.playback.proofs.Turning.{bit_not_read, symbol_read}

@@ -1,12 +1,4 @@
-pub mod Unreading
-pub mod Graphs
-pub mod Tracing
-pub mod Telling
-pub mod Walked
 pub mod Turning
 pub mod Playing
 pub mod Courses
 pub mod Looping
-pub mod Packing
-pub mod Follow
-pub mod Refiled

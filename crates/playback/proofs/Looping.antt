@@ -1,12 +1,10 @@
 -- A replay, item after item.
-use Rattle.std.proofs.Common.{◌≡◌, ℕ, suc, ◌+◌, ◌*◌, ◌<◌, ◌≤◌, true, false, cond, ◌&&◌, leb, List, [], ◌∷◌, length, take, is_ok, Some, None, Ok, Err, Option, Result, sym, refl, ap, ◌∙◌, subst, ap₂, inl, inr, arith}
-use Rattle.std.proofs.lemmas.Bool.{cases_lt}
+use Rattle.std.proofs.Common.{◌≡◌, ℕ, suc, ◌+◌, ◌<◌, ◌≤◌, false, cond, ◌&&◌, leb, List, [], ◌∷◌, length, take, is_ok, Ok, Err, Option, Result, sym, refl, ap, ◌∙◌, subst, ap₂, inl, inr, arith}
 use Rattle.fault.specs.declared.refusal.Fault.{Fault}
-use Rattle.fault.specs.declared.cause.Cause.TheVariants.{NotAWalk, UnknownClass}
+use Rattle.fault.specs.declared.cause.Cause.TheVariants.{NotAWalk}
 use Rattle.alphabet.specs.Items.{first_read, last_read}
 use Rattle.alphabet.specs.Meaning.{Meaning as Letters, Lawful}
 use Rattle.pattern.specs.declared.step.Step.{Step}
-use Rattle.pattern.specs.declared.step.Step.TheVariants.{Read}
 use Rattle.pattern.specs.declared.pattern.Pattern.{Pattern}
 use Rattle.pattern.specs.Patterns.{entry_of}
 use Rattle.walk.specs.Graphs.{Points, none, ClassesBelow}
@@ -17,10 +15,10 @@ use Rattle.sink.specs.Handing.{moved_by, grown_by, taken_count, hand_answer}
 use Rattle.sink.specs.Writing.{taken_items, position_then, stocks_then}
 use Rattle.playback.specs.declared.played.Played.{Played}
 use Rattle.playback.specs.declared.played.Played.TheVariants as played
-use Rattle.playback.specs.Tracing.{Verdict, complete, broken}
-use Rattle.playback.specs.Outcome.{graph, reads_in, placed, answer, Unknown, Replays}
-use Rattle.playback.specs.Playing.{Stand, opened, ahead, Falls, Passed, Passes, stays, passes, Left, LeftSome, Tells, HandsOver, Halts, Over, Plays}
-use Rattle.playback.proofs.Graphs.{end_of, end_small, start_within, read_here}
+use Rattle.replay.specs.Tracing.{Verdict, complete, broken}
+use Rattle.replay.specs.Outcome.{graph, reads_in, placed, answer, Replays}
+use Rattle.playback.specs.Playing.{Stand, opened, ahead, Falls, Passed, Passes, stays, passes, Left, LeftSome, Tells, HandsOver, Halts, Over}
+use Rattle.replay.proofs.Graphs.{end_of, end_small, start_within}
 use Rattle.playback.specs.Courses.{Straight, still, hand, PlaybackComesAlike}
 use Rattle.playback.proofs.Playing.{pass_within, some_in}
 use Rattle.playback.proofs.Courses.{told_count, left_ended}
@@ -180,39 +178,7 @@ module _ (P : Pattern) where
     halts_ahead t t' q q' s s' r f e l (inl h) = rw e (passed_ahead t t' l h.passed)
     halts_ahead t t' q q' s s' r f e l (inr h) = rw e (passed_ahead t t' l h.passed)
 
--- what a call of a playback tells, of the same alphabet and the same pattern
-module _ {Symbol : Type 0} (L L' : Letters Symbol) (P P' : Pattern) (m : Meaning) (t t' : Stand Symbol) (q q' : m.Position) (s s' : Stocks) (same : L' ≡ L) (alike : P' ≡ P) where
-  pub plays_hands : (o : Option Played) (x : Played) → o ≡ Some x → Plays L' (graph P') m t q s (Ok o) t' q' s' → HandsOver L (graph P) m t q s x t' q' s'
-  plays_hands o x e y =
-      subst (λ (Z : Letters Symbol). HandsOver Z (graph P) m t q s x t' q' s') same
-      (subst (λ (Z : Pattern). HandsOver L' (graph Z) m t q s x t' q' s') alike (subst (λ (z : Option Played). Plays L' (graph P') m t q s (Ok z) t' q' s') e y))
-
-  pub plays_over : (o : Option Played) → o ≡ None → Plays L' (graph P') m t q s (Ok o) t' q' s' → Over L (graph P) m t q s t' q' s'
-  plays_over o e y =
-      subst (λ (Z : Letters Symbol). Over Z (graph P) m t q s t' q' s') same
-      (subst (λ (Z : Pattern). Over L' (graph Z) m t q s t' q' s') alike (subst (λ (z : Option Played). Plays L' (graph P') m t q s (Ok z) t' q' s') e y))
-
-  pub plays_halts : (f : Fault) → LeftSome L' (graph P') t → Halts L' (graph P') m t q s f t' q' s' → LeftSome L (graph P) t × Halts L (graph P) m t q s f t' q' s'
-  plays_halts f x y =
-      subst (λ (Z : Letters Symbol). LeftSome Z (graph P) t × Halts Z (graph P) m t q s f t' q' s') same
-      (subst (λ (Z : Pattern). LeftSome L' (graph Z) t × Halts L' (graph Z) m t q s f t' q' s') alike (x, y))
-
 module _ {Symbol : Type 0} (L : Letters Symbol) (P : Pattern) (bytes : List ℕ) (w : List Symbol) (m : Meaning) (q : m.Position) (s : Stocks) where
-  -- what holds between two items: h are handed over
-  pub record Going (h : ℕ) (t : Stand Symbol) (q' : m.Position) (s' : Stocks) : Type 0 where
-    pub onward : (r : Result ℕ Fault) (q'' : m.Position) (s'' : Stocks) → Comes L (graph P) m h t q' s' r q'' s'' → Comes L (graph P) m 0 (opened P bytes w) q s r q'' s''
-    pub bound : h + ahead t ≤ 257 * length w + 257
-
-  pub going_first : (t : Stand Symbol) → t ≡ opened P bytes w → Going 0 t q s
-  going_first t e = subst (λ (t : Stand Symbol). Going 0 t q s) (sym e) (record { onward = λ r q'' s'' x. x; bound = omega (arith, left_bound 256 none) })
-
-  pub going_next : Lawful L → (h : ℕ) (t t' : Stand Symbol) (q' q'' : m.Position) (s' s'' : Stocks) (x : Played) → t.point ≤ end_of P → Going h t q' s' → HandsOver L (graph P) m t q' s' x t' q'' s'' →
-      Going (h + 1) t' q'' s''
-  going_next law h t t' q' q'' s' s'' x l g y = record {
-    onward = λ r a b z. g.onward r a b (comes_handed L (graph P) m law h t t' q' q'' s' s'' x y r a b z);
-    bound = omega (arith, g.bound, hands_falls P L m t t' q' q'' s' s'' x l y);
-  }
-
   pub led : ClassesBelow L.classes (graph P) → (r : Result ℕ Fault) (q' : m.Position) (s' : Stocks) → Comes L (graph P) m 0 (opened P bytes w) q s r q' s' → Replays L (graph P) (entry_of P) bytes w m q s r q' s'
   led known r q' s' x =
       inr (record {
@@ -226,42 +192,6 @@ module _ {Symbol : Type 0} (L : Letters Symbol) (P : Pattern) (bytes : List ℕ)
           stocked = x.stocked;
         };
       })
-
-  pub barred : (r : Result ℕ Fault) → Unknown L.classes (graph P) → r ≡ Err (placed UnknownClass 0) → Replays L (graph P) (entry_of P) bytes w m q s r q s
-  barred r u e = inl (record { unknown = u; answers = e; stays = refl; keeps = refl })
-
--- the classes of a pattern
-
-abbrev pub Below : Pattern → ℕ → ℕ → Type 0
-Below P count i = (p : ℕ) → p < i → (class k : ℕ) → graph P p ≡ Read class k → class < count
-
-pub all_known : (P : Pattern) (count i : ℕ) → end_of P ≤ i → Below P count i → ClassesBelow count (graph P)
-all_known P count i e h p class k f = h p (omega (arith, read_here P p class k f)) class k f
-
-read_class : (c d k l : ℕ) → ◌≡◌ {A = Step} (Read c k) (Read d l) → c ≡ d
-read_class c d k l e = cc
-
-pub below_read : (P : Pattern) (count i class k : ℕ) → Below P count i → Read class k ≡ graph P i → class < count → Below P count (i + 1)
-below_read P count i class k h e l p lt class' k' f =
-    elim (cases_lt p i) [
-      | inl y ↦ h p y class' k' f
-      | inr y ↦
-          let x : p ≡ i = omega arith in
-          let z = read_class class class' k k' (e ∙ ap (graph P) (sym x) ∙ f) in omega arith
-    ]
-
-pub below_other : (P : Pattern) (count i : ℕ) (y : Step) → Below P count i → y ≡ graph P i → ((class k : ℕ) → y ≡ Read class k → ⊥) → Below P count (i + 1)
-below_other P count i y h e no_read p lt class k f =
-    elim (cases_lt p i) [
-      | inl l ↦ h p l class k f
-      | inr l ↦ let x : p ≡ i = omega arith in absurd (no_read class k (e ∙ ap (graph P) (sym x) ∙ f))
-    ]
-
-pub never_true : {X : Type 0} → true ≡ false → X
-never_true e = let z : ◌≡◌ {A = ℕ} 0 1 = cc in absurd (omega arith)
-
-pub never_answered : {X : Type 0} (r : Result ℕ Fault) (n : ℕ) (f : Fault) → r ≡ Err f → r ≡ Ok n → X
-never_answered r n f x y = let z : ◌≡◌ {A = ℕ} 0 1 = cc in absurd (omega arith)
 
 -- with nothing poured between, a playback comes to what a replay comes to
 pub playback_comes_alike : {Symbol : Type 0} (L : Letters Symbol) (law : Lawful L) (P : Pattern) (m : Meaning) → PlaybackComesAlike L P m

@@ -16,15 +16,16 @@ use Rattle.walk.proofs.Order.{never_both}
 use Rattle.sink.specs.Meaning.{Meaning, Stocks, take_answer, grown}
 use Rattle.playback.specs.declared.played.Played.{Played}
 use Rattle.playback.specs.declared.played.Played.TheVariants as played
-use Rattle.playback.specs.Bits.{bits_of, Filling}
-use Rattle.playback.specs.Tracing.{Verdict, complete, broken, Traces, again, over, first, second, no_bit, reads, ends, symbols_left, bits_left}
-use Rattle.playback.specs.Outcome.{graph, placed}
-use Rattle.playback.specs.Stepping.{next_item, Marks}
+use Rattle.replay.specs.Bits.{bits_of, Filling}
+use Rattle.replay.specs.Tracing.{Verdict, complete, broken, Traces, again, over, first, second, no_bit, reads, ends, symbols_left, bits_left}
+use Rattle.replay.specs.Outcome.{graph, placed}
+use Rattle.replay.specs.Stepping.{next_item, Marks}
 use Rattle.playback.specs.Playing.{Stand, Passes, stays, passes, LeftBy, Left, LeftSome, Passed, Tells, HandsOver, Halts, Skips, Steps, PlaysOn, Plays, opened}
-use Rattle.playback.proofs.Graphs.{LeadsWithin, end_of, end_small, leads_within}
-use Rattle.playback.proofs.Tracing.{tracing}
-use Rattle.playback.proofs.Telling.{one_trace}
-use Rattle.playback.proofs.Turning.{Reading, drop_next, refused_item, reading_breaks}
+use Rattle.replay.proofs.Graphs.{LeadsWithin, end_of, end_small, leads_within}
+use Rattle.replay.proofs.Tracing.{tracing}
+use Rattle.replay.proofs.Telling.{one_trace}
+use Rattle.replay.proofs.Turning.{drop_next}
+use Rattle.playback.proofs.Turning.{Reading, refused_item, reading_breaks}
 
 abbrev pub sd : {Symbol : Type 0} → List Bool → List Symbol → Points → ℕ → ℕ → Bool → Stand Symbol
 sd bs u met p n z = record { bits = bs; symbols = u; met = met; point = p; read = n; ended = z }

@@ -1,7 +1,5 @@
 -- What is found out at one point of a replay.
-use Rattle.std.proofs.Common.{◌≡◌, ℕ, zero, suc, ◌+◌, ◌*◌, ◌<◌, ◌≤◌, Bool, true, false, cond, eqb, List, [], ◌∷◌, length, get_or, drop, set, replicate, Some, None, Ok, Err, sym, refl, ap, ◌∙◌, arith, eqb→eq, get_or-set_other, get_or-set_same}
-use mathlib.Core.Path.{fun_ext}
-use lib.Dec.{eqb_refl}
+use Rattle.std.proofs.Common.{◌≡◌, ℕ, ◌+◌, ◌<◌, ◌≤◌, Bool, true, false, cond, List, [], ◌∷◌, length, get_or, drop, Some, None, Ok, Err, sym, refl, ap, ◌∙◌, arith}
 use Rattle.std.proofs.lemmas.List.{drop_more}
 use Rattle.std.proofs.lemmas.Bool.Decides.{nat_tests}
 use Rattle.fault.specs.declared.refusal.Fault.{Fault}
@@ -11,49 +9,10 @@ use Rattle.alphabet.specs.Items.{first_branch, second_branch, read_item}
 use Rattle.alphabet.specs.Meaning.{Meaning as Letters, read_of}
 use Rattle.pattern.specs.declared.step.Step.{Step}
 use Rattle.pattern.specs.declared.step.Step.TheVariants.{Read}
-use Rattle.point_set.specs.declared.set.PointSet.{PointSet}
-use Rattle.point_set.specs.Members.{members}
-use Rattle.point_set.proofs.Digits.{length_flags}
-use Rattle.walk.specs.Graphs.{Points, none, add}
-use Rattle.walk.proofs.Order.{T_true, never_both}
-use Rattle.playback.specs.Tracing.{broken, Traces, outside, no_symbol}
-use Rattle.playback.specs.Outcome.{reads_in, placed}
-use Rattle.playback.specs.Stepping.{met_of, next_item}
-
--- the set of points met
-
-length_members : (s : PointSet) → length (members s) ≡ 256
-length_members s = length_flags s.words ∙ ap (λ n. 64 * n) s.whole
-
-set_add : (old new : List Bool) (p : ℕ) → new ≡ set old p true → p < length old → (λ (k : ℕ). get_or new k false) ≡ add p (λ k. get_or old k false)
-unfolding add
-set_add old new p e h = fun_ext (λ k. ap (λ l. get_or l k false) e ∙ go k (eqb k p) refl)
-  where
-    go : (k : ℕ) (b : Bool) → eqb k p ≡ b → get_or (set old p true) k false ≡ elim b [ true ↦ true | false ↦ get_or old k false ]
-    go k true e = ap (λ i. get_or (set old p true) i false) (eqb→eq k p (rw e tt)) ∙ get_or-set_same old p true false h
-    go k false e = get_or-set_other old p k true false (λ f. never_both (ap (λ i. eqb i p) f ∙ T_true (eqb p p) (eqb_refl p)) e)
-
-pub inserted : (old new : PointSet) (p : ℕ) → members new ≡ set (members old) p true → p < 256 → met_of new ≡ add p (met_of old)
-inserted old new p e l = set_add (members old) (members new) p e (omega (arith, length_members old))
-
-all_false : (n k : ℕ) → get_or (replicate n false) k false ≡ false
-all_false zero k = refl
-all_false (suc n) zero = refl
-all_false (suc n) (suc k) = all_false n k
-
-pub cleared : (new : PointSet) → members new ≡ replicate 256 false → met_of new ≡ none
-cleared new e = fun_ext (λ k. ap (λ (l : List Bool). get_or l k false) e ∙ all_false 256 k)
-
--- the symbols to come
-
-pub drop_next : {S : Type 0} (w : List S) (n : ℕ) (x : S) (u : List S) → drop n w ≡ x ∷ u → (n < length w) × (u ≡ drop (n + 1) w)
-drop_next [] zero x u e = let z : ◌≡◌ {A = ℕ} 0 1 = cc in absurd (omega arith)
-drop_next [] (suc n) x u e = let z : ◌≡◌ {A = ℕ} 0 1 = cc in absurd (omega arith)
-drop_next (y ∷ w) zero x u e = (omega arith, (let i : u ≡ w = cc in i))
-drop_next (y ∷ w) (suc n) x u e =
-    let h = drop_next w n x u e in
-    let k : suc (n + 1) ≡ suc n + 1 = omega arith in
-    (omega (arith, h.0), h.1 ∙ ap (λ (i : ℕ). drop i (y ∷ w)) k)
+use Rattle.walk.specs.Graphs.{Points}
+use Rattle.replay.specs.Tracing.{broken, Traces, outside, no_symbol}
+use Rattle.replay.specs.Outcome.{reads_in, placed}
+use Rattle.replay.specs.Stepping.{next_item}
 
 -- the next item
 

@@ -9,9 +9,9 @@ use Rattle.walk.specs.Graphs.{none, ClassesBelow}
 use Rattle.walk.specs.Codes.{Code}
 use Rattle.sink.specs.Meaning.{Meaning, Stocks}
 use Rattle.playback.specs.declared.played.Played.{Played}
-use Rattle.playback.specs.Bits.{bits_of}
-use Rattle.playback.specs.Tracing.{Verdict, complete, broken, Traces}
-use Rattle.playback.specs.Outcome.{graph, reads_in, Replays}
+use Rattle.replay.specs.Bits.{bits_of}
+use Rattle.replay.specs.Tracing.{Verdict, complete, broken, Traces}
+use Rattle.replay.specs.Outcome.{graph, reads_in, Replays}
 use Rattle.playback.specs.Playing.{Stand, opened, Left, LeftSome, HandsOver, Breaks, Refuses, Halts, Plays}
 
 module _ {Symbol : Type 0} (L : Letters Symbol) (at : ℕ → Step) (m : Meaning) where

@@ -1,10 +1,3 @@
-pub mod Bits
 pub mod Unread
-pub mod Tracing
-pub mod Computed
-pub mod Outcome
-pub mod Stepping
 pub mod Playing
 pub mod Courses
-pub mod Theorems
-pub mod Refiling

@@ -16,11 +16,11 @@ use Rattle.sink.specs.Meaning.{Meaning, Stocks, take_answer, grown}
 use Rattle.playback.specs.declared.cursor.Cursor.{Cursor}
 use Rattle.playback.specs.declared.played.Played.{Played}
 use Rattle.playback.specs.declared.played.Played.TheVariants as played
-use Rattle.playback.specs.Bits.{bits_of, Filling}
-use Rattle.playback.specs.Tracing.{Verdict, complete, broken, Traces}
-use Rattle.playback.specs.Outcome.{graph, Unknown, placed}
+use Rattle.replay.specs.Bits.{bits_of, Filling}
+use Rattle.replay.specs.Tracing.{Verdict, complete, broken, Traces}
+use Rattle.replay.specs.Outcome.{graph, Unknown, placed}
 use Rattle.playback.specs.Unread.{unread, bytes_in}
-use Rattle.playback.specs.Stepping.{met_of}
+use Rattle.replay.specs.Stepping.{met_of}
 
 -- where a playback stands: the bits and the symbols still to come, the points met since the last read, the point at hand,
 -- how many symbols are read, and whether the end mark is handed over

@@ -1,7 +1,7 @@
 -- The bits that a reader of filed bytes has still to give. Assumes nothing.
 use Rattle.std.specs.Prelude.{◌≡◌, ℕ, Bool, List, [], ◌∷◌, ◌++◌, drop, Some, None, Option}
 use Rattle.playback.specs.declared.bits.FiledBits.{FiledBits}
-use Rattle.playback.specs.Bits.{highest, bits_of}
+use Rattle.replay.specs.Bits.{highest, bits_of}
 
 -- the rest of the byte at hand, and all bytes behind it
 abbrev pub unread : FiledBits → List Bool

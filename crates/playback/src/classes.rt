@@ -1,7 +1,7 @@
 // Whether an alphabet has the classes of a pattern.
 ghost use Rattle.std.specs.Prelude.{◌≡◌, true, false, nat_le};
 ghost use Rattle.walk.specs.Graphs.{ClassesBelow};
-ghost use Rattle.playback.specs.Outcome.{graph, Unknown};
+ghost use Rattle.replay.specs.Outcome.{graph, Unknown};
 
 use pattern::{Pattern, Step};
 

@@ -5,10 +5,10 @@ ghost use Rattle.alphabet.specs.Items.{first_branch, second_branch};
 ghost use Rattle.alphabet.specs.Meaning.{read_of};
 ghost use Rattle.pattern.specs.Patterns.{points_of};
 ghost use Rattle.point_set.specs.Members.{members, point_count};
-ghost use Rattle.playback.specs.Bits.{bits_of, Filling};
+ghost use Rattle.replay.specs.Bits.{bits_of, Filling};
 ghost use Rattle.playback.specs.Unread.{unread, bytes_in};
-ghost use Rattle.playback.specs.Outcome.{graph, placed};
-ghost use Rattle.playback.specs.Stepping.{next_item, Hands, Marks};
+ghost use Rattle.replay.specs.Outcome.{graph, placed};
+ghost use Rattle.replay.specs.Stepping.{next_item, Hands, Marks};
 ghost use Rattle.playback.specs.Playing.{stand, PlaysOn, Steps};
 
 use crate::bits::FiledBits;

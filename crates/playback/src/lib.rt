@@ -1,4 +1,4 @@
-// Replay: filed bits and the symbols of an input, walked through a pattern again.
+// Playback: a replay that hands its items over one by one.
 #![tactic(auto)]
 
 mod bits;
@@ -7,8 +7,6 @@ mod cursor;
 pub mod laws;
 mod playback;
 mod played;
-mod replaying;
 
 pub use playback::Playback;
 pub use played::Played;
-pub use replaying::replay;

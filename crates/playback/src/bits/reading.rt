@@ -1,6 +1,6 @@
 // Reading filed bits.
 ghost use Rattle.std.specs.Prelude.{◌≡◌, true, ◌||◌, ◌↔◌, ◌==◌};
-ghost use Rattle.playback.specs.Bits.{bits_of, most_filling, Filling};
+ghost use Rattle.replay.specs.Bits.{bits_of, most_filling, Filling};
 ghost use Rattle.playback.specs.Unread.{unread, bytes_in, Gives};
 
 use super::FiledBits;

@@ -1,7 +1,7 @@
 // The calls of a playback. None asks for anything.
 ghost use Rattle.std.specs.Prelude.{◌≡◌, MatchResult};
 ghost use Rattle.playback.specs.Unread.{bytes_in};
-ghost use Rattle.playback.specs.Outcome.{graph};
+ghost use Rattle.replay.specs.Outcome.{graph};
 ghost use Rattle.playback.specs.Playing.{stand, ahead, Falls, LeftSome, Plays, Opens, Bars};
 
 use super::Playback;

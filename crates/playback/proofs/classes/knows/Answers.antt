@@ -1,6 +1,6 @@
 use Rattle.std.proofs.Common.{sym, ◌∙◌, arith}
 use Rattle.std.proofs.lemmas.Bool.{leb-false}
-use Rattle.playback.proofs.Looping.{all_known, below_read, below_other, never_true}
+use Rattle.replay.proofs.Looping.{all_known, below_read, below_other, never_true}
 use Rattle.playback.proofs.classes.knows.Goals as goal
 use Rattle.playback.proofs.classes.knows.Goals.{in-Read+else-lacks, in_default}
 

@@ -1,4 +1,4 @@
-use Rattle.playback.proofs.Looping.{Below}
+use Rattle.replay.proofs.Looping.{Below}
 use Rattle.playback.proofs.classes.knows.Given as goal
 
 -- the classes of the points before this one are below the count

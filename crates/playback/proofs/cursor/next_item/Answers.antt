@@ -1,6 +1,6 @@
 use Rattle.std.proofs.Common.{Err, sym, ap, ◌∙◌}
 use Rattle.std.proofs.lemmas.List.{drop_all}
-use Rattle.playback.specs.Stepping.{next_item}
+use Rattle.replay.specs.Stepping.{next_item}
 use Rattle.playback.proofs.Turning.{item_some, item_none}
 use Rattle.playback.proofs.cursor.next_item.Goals as goal
 

@@ -1,6 +1,6 @@
 use Rattle.std.proofs.Common.{Err, refl, ap, ◌∙◌, arith}
 use Rattle.std.proofs.lemmas.Result.{err_from_is_err_and}
-use Rattle.playback.specs.Outcome.{graph}
+use Rattle.replay.specs.Outcome.{graph}
 use Rattle.playback.specs.Playing.{stand}
 use Rattle.playback.proofs.Playing.{passed_none, passed_on, hands_after, halts_after, steps_skips, steps_hands, plays_refused}
 use Rattle.playback.proofs.cursor.play_on.Goals as goal

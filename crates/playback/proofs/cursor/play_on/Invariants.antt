@@ -2,10 +2,10 @@ use Rattle.std.proofs.Common.{◌≡◌, ◌≤◌}
 use Rattle.point_set.specs.Members.{point_count}
 use Rattle.walk.proofs.Fuel.{left}
 use Rattle.playback.specs.Unread.{bytes_in}
-use Rattle.playback.specs.Outcome.{graph}
-use Rattle.playback.specs.Stepping.{met_of}
+use Rattle.replay.specs.Outcome.{graph}
+use Rattle.replay.specs.Stepping.{met_of}
 use Rattle.playback.specs.Playing.{stand, Passed}
-use Rattle.playback.proofs.Graphs.{end_of}
+use Rattle.replay.proofs.Graphs.{end_of}
 use Rattle.playback.proofs.cursor.play_on.Given as goal
 
 -- so far points were passed freely

@@ -1,10 +1,11 @@
 use Rattle.std.proofs.Common.{◌<◌, ◌≤◌, Err, sym, refl, ap, ◌∙◌, arith}
 use Rattle.std.proofs.lemmas.Result.{err_from_is_err_and}
 use Rattle.playback.specs.Unread.{unread}
-use Rattle.playback.specs.Outcome.{graph}
-use Rattle.playback.specs.Stepping.{met_of}
-use Rattle.playback.proofs.Graphs.{end_of, end_small, leads_within}
-use Rattle.playback.proofs.Turning.{inserted, cleared, drop_next, reading}
+use Rattle.replay.specs.Outcome.{graph}
+use Rattle.replay.specs.Stepping.{met_of}
+use Rattle.replay.proofs.Graphs.{end_of, end_small, leads_within}
+use Rattle.replay.proofs.Turning.{inserted, cleared, drop_next}
+use Rattle.playback.proofs.Turning.{reading}
 use Rattle.playback.proofs.Playing.{steps_refused, turn_met, turn_dry, turn_outside, turn_skip, turn_fork, turn_read, turn_end, bars_fork, bars_read, bars_end, fork_within, read_within, pass_within}
 use Rattle.playback.proofs.cursor.step.Goals as goal
 

@@ -1,5 +1,5 @@
 use Rattle.std.proofs.Common.{◌-◌, sym, ◌∙◌}
-use Rattle.playback.proofs.Unreading.{not_filling, is_filling, excess}
+use Rattle.replay.proofs.Unreading.{not_filling, is_filling, excess}
 use Rattle.playback.proofs.bits.FiledBits.is_filling.Goals as goal
 
 pub returns-then-is_excess : goal.returns-then-is_excess

@@ -1,6 +1,6 @@
 use Rattle.std.proofs.Common.{◌-◌, ◌≤◌, ◌↔◌}
 use Rattle.playback.specs.Unread.{unread}
-use Rattle.playback.proofs.Unreading.{Few}
+use Rattle.replay.proofs.Unreading.{Few}
 use Rattle.playback.proofs.bits.FiledBits.is_filling.Given as goal
 
 -- what is left is a filling of the bits not seen yet

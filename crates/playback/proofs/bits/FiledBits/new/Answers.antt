@@ -1,5 +1,5 @@
 use Rattle.std.proofs.Common.{refl}
-use Rattle.playback.specs.Bits.{highest}
+use Rattle.replay.specs.Bits.{highest}
 use Rattle.playback.proofs.bits.FiledBits.new.Goals as goal
 
 pub returns : goal.returns

@@ -1,5 +1,5 @@
 use Rattle.std.proofs.Common.{refl, arith}
-use Rattle.playback.proofs.Unreading.{none_left, next_byte, next_bit}
+use Rattle.replay.proofs.Unreading.{none_left, next_byte, next_bit}
 use Rattle.playback.proofs.bits.FiledBits.take.Goals as goal
 
 pub returns-then-next-self : goal.returns-then-next-self

@@ -1,6 +1,6 @@
 use Rattle.std.proofs.Common.{Err, refl, ap, ◌∙◌, arith}
 use Rattle.std.proofs.lemmas.Result.{err_from_is_err_and}
-use Rattle.playback.specs.Outcome.{graph}
+use Rattle.replay.specs.Outcome.{graph}
 use Rattle.playback.specs.Playing.{stand}
 use Rattle.playback.proofs.Playing.{some_in, next_refused}
 use Rattle.playback.proofs.Looping.{hands_falls, halts_ahead}

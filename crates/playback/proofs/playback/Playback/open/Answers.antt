@@ -1,9 +1,9 @@
 use Rattle.std.proofs.Common.{refl, ◌∙◌, subst}
 use Rattle.walk.specs.Graphs.{ClassesBelow}
 use Rattle.playback.specs.Unread.{unread}
-use Rattle.playback.specs.Outcome.{graph, Unknown}
-use Rattle.playback.specs.Stepping.{met_of}
-use Rattle.playback.proofs.Turning.{cleared}
+use Rattle.replay.specs.Outcome.{graph, Unknown}
+use Rattle.replay.specs.Stepping.{met_of}
+use Rattle.replay.proofs.Turning.{cleared}
 use Rattle.playback.proofs.Playing.{stands_open}
 use Rattle.playback.proofs.playback.Playback.open.Goals as goal
 
