@@ -3,7 +3,7 @@ use Rattle.std.specs.Prelude.{ℕ, ◌-◌, ◌%◌, cond, [], ◌∷◌, ◌==�
 use Rattle.alphabet.specs.Items.{first_branch, second_branch, first_read, end_mark}
 use Rattle.sink.specs.Meaning.{Meaning, Stocks, alone, one_channel}
 use Rattle.sink.specs.Held.{held}
-use Rattle.run_trial.specs.declared.marks.Marks.{Marks}
+use Rattle.reading_trial.specs.declared.marks.Marks.{Marks}
 
 -- the byte of an item: < and > for the branches, a full stop for the end mark, the low byte of a symbol's number for its read
 abbrev pub mark_of : ℕ → ℕ

@@ -2,7 +2,7 @@
 ghost use Rattle.std.specs.Prelude.{◌≡◌, ◌-◌, length};
 ghost use Rattle.sink.specs.Held.{held};
 ghost use Rattle.sink.specs.Limits.{stock_bytes};
-ghost use Rattle.run_trial.specs.Marks.{mark_of, marks_meaning, marks_stock};
+ghost use Rattle.reading_trial.specs.Marks.{mark_of, marks_meaning, marks_stock};
 
 use alphabet::item::{END_MARK, FIRST, FIRST_READ, SECOND};
 use fault::{Cause, Fault};
