@@ -7,7 +7,7 @@ use Rattle.alphabet.specs.Items.{end_mark}
 use Rattle.alphabet.specs.Meaning.{Meaning}
 use Rattle.pattern.specs.declared.pattern.Pattern.{Pattern}
 use Rattle.pattern.specs.Patterns.{entry_of}
-use Rattle.sink.specs.Meaning.{Meaning as Sink-meaning, Stocks, nothing}
+use Rattle.sink.specs.Meaning.{Meaning as SinkMeaning, Stocks, nothing}
 use Rattle.sink.specs.BitsMeaning.{BitsPosition, bits_meaning, unfilled, ended}
 use Rattle.sink.specs.PairMeaning.{pair_meaning}
 use Rattle.sink.specs.Handing.{moved_by}
@@ -34,7 +34,7 @@ use Rattle.filing.proofs.Courses.{open_or_failed, grown_written}
 use Rattle.filing.proofs.Feeding.{Feeding, not_both, through_feeding}
 use Rattle.filing.proofs.Kept.{ok_not_err, all_handed}
 
-module _ {S : Type 0} (L : Meaning S) (p : Pattern) (K : Sink-meaning) where
+module _ {S : Type 0} (L : Meaning S) (p : Pattern) (K : SinkMeaning) where
   -- where a finish is answered the run was open
   open_at_last : (a : Stage S K.Position) (t : Standing K.Position) (r : Finished) → Closed L p K a t (Ok r) → a.fault ≡ None
   open_at_last a t r h =
@@ -65,18 +65,18 @@ module _ {S : Type 0} (L : Meaning S) (p : Pattern) (K : Sink-meaning) where
 
 -- the two sinks of a pair
 
-expects_both : (m n : Sink-meaning) (p : m.Position) (q : n.Position) (xs : Code) → Expects (pair_meaning m n) (p, q) xs → Expects m p xs × Expects n q xs
+expects_both : (m n : SinkMeaning) (p : m.Position) (q : n.Position) (xs : Code) → Expects (pair_meaning m n) (p, q) xs → Expects m p xs × Expects n q xs
 expects_both m n p q [] h = (tt, tt)
 expects_both m n p q (x ∷ xs) h =
     let here = and_parts (m.expected p x) (n.expected q x) h.0 in
     let rest = expects_both m n (m.next p x) (n.next q x) xs h.1 in
     ((here.0, rest.0), (here.1, rest.1))
 
-first_written : (m n : Sink-meaning) (p : m.Position) (q : n.Position) (xs : Code) → written (pair_meaning m n) 0 (p, q) xs ≡ written m 0 p xs
+first_written : (m n : SinkMeaning) (p : m.Position) (q : n.Position) (xs : Code) → written (pair_meaning m n) 0 (p, q) xs ≡ written m 0 p xs
 first_written m n p q [] = refl
 first_written m n p q (x ∷ xs) = ap (λ (b : List ℕ). m.added p x 0 ++ b) (first_written m n (m.next p x) (n.next q x) xs)
 
-second_written : (m n : Sink-meaning) (p : m.Position) (q : n.Position) (xs : Code) → written (pair_meaning m n) 1 (p, q) xs ≡ written n 0 q xs
+second_written : (m n : SinkMeaning) (p : m.Position) (q : n.Position) (xs : Code) → written (pair_meaning m n) 1 (p, q) xs ≡ written n 0 q xs
 second_written m n p q [] = refl
 second_written m n p q (x ∷ xs) = ap (λ (b : List ℕ). n.added q x 0 ++ b) (second_written m n (m.next p x) (n.next q x) xs)
 

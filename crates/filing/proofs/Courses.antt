@@ -4,7 +4,7 @@ use Rattle.std.proofs.lemmas.Bool.{cases_Bool, eqb-true}
 use Rattle.fault.specs.declared.refusal.Fault.{Fault}
 use Rattle.alphabet.specs.Meaning.{Meaning}
 use Rattle.pattern.specs.declared.pattern.Pattern.{Pattern}
-use Rattle.sink.specs.Meaning.{Meaning as Sink-meaning, Stocks, grown, emptied, fronted}
+use Rattle.sink.specs.Meaning.{Meaning as SinkMeaning, Stocks, grown, emptied, fronted}
 use Rattle.sink.specs.Handing.{moved_by, grown_by}
 use Rattle.sink.proofs.Handings.{moved_by_append, Expects, expects_taken, expects_append}
 use Rattle.sink.proofs.Exactness.{exact}
@@ -12,7 +12,7 @@ use Rattle.walk.specs.Codes.{Code}
 use Rattle.run.specs.declared.calls.Call.{Call}
 use Rattle.run.specs.declared.calls.Call.TheVariants.{Feed, Pour}
 use Rattle.run.specs.declared.calls.Answer.{Answer}
-use Rattle.run.specs.declared.calls.Answer.TheVariants.{Fed as Fed-answer, Poured as Poured-answer}
+use Rattle.run.specs.declared.calls.Answer.TheVariants.{Fed as FedAnswer, Poured as PouredAnswer}
 use Rattle.run.specs.Sinks.{Standing, after_items, Takes}
 use Rattle.run.specs.Stages.{Stage, Fed}
 use Rattle.run.specs.Performed.{Poured, Through}
@@ -28,7 +28,7 @@ front_is : (xs ys : List ℕ) → take (length xs) (xs ++ ys) ≡ xs
 front_is [] ys = refl
 front_is (x ∷ xs) ys = ap (λ (zs : List ℕ). x ∷ zs) (front_is xs ys)
 
-module _ (K : Sink-meaning) where
+module _ (K : SinkMeaning) where
   written_append : (c : ℕ) (p : K.Position) (xs ys : Code) → written K c p (xs ++ ys) ≡ written K c p xs ++ written K c (moved_by K p xs) ys
   written_append c p [] ys = refl
   written_append c p (x ∷ xs) ys =
@@ -86,7 +86,7 @@ module _ (K : Sink-meaning) where
   -- what a pour brings out of a channel and what stays in it are what it held
   pour_keeps : (S : Type 0) (c channel : ℕ) (s : Stocks) (x u : List ℕ) (r : Result ℕ Fault) → ((n : ℕ) → r ≡ Ok n → n ≡ length (s channel))
       → u ≡ cond (is_ok r) (fronted (s channel) x) x
-      → brought {S = S} c (Pour channel) (Poured-answer r) u ++ cond (is_ok r) (emptied s channel) s c ≡ s c ++ []
+      → brought {S = S} c (Pour channel) (PouredAnswer r) u ++ cond (is_ok r) (emptied s channel) s c ≡ s c ++ []
   pour_keeps S c channel s x u (Err f) count e = sym (append-nil (s c))
   pour_keeps S c channel s x u (Ok n) count e =
       elim (cases_Bool (eqb c channel)) [
@@ -99,7 +99,7 @@ module _ (K : Sink-meaning) where
 
   module _ {S : Type 0} where
     pub pour_course : (channel : ℕ) (a b : Stage S K.Position) (x u : List ℕ) (r : Result ℕ Fault) → Poured K channel a x r b u
-        → Course a b (λ c. brought {S = S} c (Pour channel) (Poured-answer r) u)
+        → Course a b (λ c. brought {S = S} c (Pour channel) (PouredAnswer r) u)
     pour_course channel a b x u r h =
         let count : (n : ℕ) → r ≡ Ok n → n ≡ length (a.sink.stocks channel) = λ n e. sym (((exact K).poured a.sink.stocks channel (length x) n).0 (sym h.answer ∙ e)).2 in
         record {
@@ -108,7 +108,7 @@ module _ (K : Sink-meaning) where
           moved = ap (λ (z : Stage S K.Position). z.sink.position) h.after;
           expects = tt;
           channels = λ c.
-              ap (λ (z : Stage S K.Position). brought {S = S} c (Pour channel) (Poured-answer r) u ++ z.sink.stocks c) h.after
+              ap (λ (z : Stage S K.Position). brought {S = S} c (Pour channel) (PouredAnswer r) u ++ z.sink.stocks c) h.after
               ∙ pour_keeps S c channel a.sink.stocks x u r count h.written;
         }
 
@@ -125,10 +125,10 @@ module _ (K : Sink-meaning) where
       through_course a x [] [] z y h = still_course a z h.0
       through_course a x [] (r ∷ rs) z y h = absurd h
       through_course a x (k ∷ ks) [] z y h = absurd h
-      through_course a x (Feed piece ∷ ks) (Fed-answer r ∷ rs) z y (b, u, d, s, h) =
+      through_course a x (Feed piece ∷ ks) (FedAnswer r ∷ rs) z y (b, u, d, s, h) =
           course_then a b z (λ c. []) (λ c. drawn L p K c b u ks rs z y h) (feed_course piece.now a b r d.0) (through_course b u ks rs z y h)
-      through_course a x (Feed piece ∷ ks) (Poured-answer r ∷ rs) z y (b, u, d, s, h) = absurd d
-      through_course a x (Pour channel ∷ ks) (Fed-answer r ∷ rs) z y (b, u, d, s, h) = absurd d
-      through_course a x (Pour channel ∷ ks) (Poured-answer r ∷ rs) z y (b, u, d, s, h) =
-          course_then a b z (λ c. brought {S = S} c (Pour channel) (Poured-answer r) u) (λ c. drawn L p K c b u ks rs z y h)
+      through_course a x (Feed piece ∷ ks) (PouredAnswer r ∷ rs) z y (b, u, d, s, h) = absurd d
+      through_course a x (Pour channel ∷ ks) (FedAnswer r ∷ rs) z y (b, u, d, s, h) = absurd d
+      through_course a x (Pour channel ∷ ks) (PouredAnswer r ∷ rs) z y (b, u, d, s, h) =
+          course_then a b z (λ c. brought {S = S} c (Pour channel) (PouredAnswer r) u) (λ c. drawn L p K c b u ks rs z y h)
           (pour_course channel a b x u r d) (through_course b u ks rs z y h)

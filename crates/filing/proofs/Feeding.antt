@@ -3,11 +3,11 @@ use Rattle.std.proofs.Common.{◌≡◌, ℕ, List, [], ◌∷◌, ◌++◌, Som
 use Rattle.fault.specs.declared.refusal.Fault.{Fault}
 use Rattle.alphabet.specs.Meaning.{Meaning}
 use Rattle.pattern.specs.declared.pattern.Pattern.{Pattern}
-use Rattle.sink.specs.Meaning.{Meaning as Sink-meaning}
+use Rattle.sink.specs.Meaning.{Meaning as SinkMeaning}
 use Rattle.run.specs.declared.calls.Call.{Call}
 use Rattle.run.specs.declared.calls.Call.TheVariants.{Feed, Pour}
 use Rattle.run.specs.declared.calls.Answer.{Answer}
-use Rattle.run.specs.declared.calls.Answer.TheVariants.{Fed as Fed-answer, Poured as Poured-answer}
+use Rattle.run.specs.declared.calls.Answer.TheVariants.{Fed as FedAnswer, Poured as PouredAnswer}
 use Rattle.run.specs.Stages.{Stage, Fed, FedEnded, FedOpen}
 use Rattle.run.specs.Performed.{Poured, Through}
 use Rattle.filing.specs.Channels.{fed}
@@ -16,7 +16,7 @@ use Rattle.filing.proofs.Courses.{open_or_failed}
 pub not_both : {X : Type 0} (o : Option Fault) (f : Fault) → o ≡ None → o ≡ Some f → X
 not_both o f a b = let z : ◌≡◌ {A = ℕ} 0 1 = cc in absurd (omega arith)
 
-module _ {S : Type 0} (L : Meaning S) (p : Pattern) (K : Sink-meaning) where
+module _ {S : Type 0} (L : Meaning S) (p : Pattern) (K : SinkMeaning) where
   -- From the stage a to the stage z the symbols w were fed: a beginning of them was read, and a rest was not. A run that is open at z was open at a and has
   -- read all of them; one that had failed at a has read none.
   pub record Feeding (a z : Stage S K.Position) (w : List S) : Type 0 where
@@ -97,9 +97,9 @@ module _ {S : Type 0} (L : Meaning S) (p : Pattern) (K : Sink-meaning) where
   through_feeding a x [] [] z y h = still_feeding a z (ap (λ (c : Stage S K.Position). c.read) h.0) (ap (λ (c : Stage S K.Position). c.fault) h.0)
   through_feeding a x [] (r ∷ rs) z y h = absurd h
   through_feeding a x (k ∷ ks) [] z y h = absurd h
-  through_feeding a x (Feed piece ∷ ks) (Fed-answer r ∷ rs) z y (b, u, d, s, h) =
+  through_feeding a x (Feed piece ∷ ks) (FedAnswer r ∷ rs) z y (b, u, d, s, h) =
       feeding_then a b z piece.now (fed ks) (feed_feeding piece.now a b r d.0) (through_feeding b u ks rs z y h)
-  through_feeding a x (Feed piece ∷ ks) (Poured-answer r ∷ rs) z y (b, u, d, s, h) = absurd d
-  through_feeding a x (Pour channel ∷ ks) (Fed-answer r ∷ rs) z y (b, u, d, s, h) = absurd d
-  through_feeding a x (Pour channel ∷ ks) (Poured-answer r ∷ rs) z y (b, u, d, s, h) =
+  through_feeding a x (Feed piece ∷ ks) (PouredAnswer r ∷ rs) z y (b, u, d, s, h) = absurd d
+  through_feeding a x (Pour channel ∷ ks) (FedAnswer r ∷ rs) z y (b, u, d, s, h) = absurd d
+  through_feeding a x (Pour channel ∷ ks) (PouredAnswer r ∷ rs) z y (b, u, d, s, h) =
       feeding_then a b z [] (fed ks) (pour_feeding channel a b x u r d) (through_feeding b u ks rs z y h)

@@ -3,7 +3,7 @@ use Rattle.std.proofs.Common.{◌≡◌, ℕ, Bool, true, false, List, [], ◌++
 use Rattle.fault.specs.declared.refusal.Fault.{Fault}
 use Rattle.alphabet.specs.Meaning.{Meaning}
 use Rattle.pattern.specs.declared.pattern.Pattern.{Pattern}
-use Rattle.sink.specs.Meaning.{Meaning as Sink-meaning}
+use Rattle.sink.specs.Meaning.{Meaning as SinkMeaning}
 use Rattle.sink.specs.Handing.{moved_by}
 use Rattle.sink.proofs.Handings.{Expects}
 use Rattle.walk.specs.Codes.{Code}
@@ -22,7 +22,7 @@ use Rattle.filing.proofs.Feeding.{through_feeding}
 pub ok_not_err : {X V : Type 0} (v : V) (f : Fault) → ◌≡◌ {A = Result V Fault} (Ok v) (Err f) → X
 ok_not_err v f e = let z : ◌≡◌ {A = ℕ} 0 1 = cc in absurd (omega arith)
 
-module _ {S : Type 0} (L : Meaning S) (p : Pattern) (K : Sink-meaning) where
+module _ {S : Type 0} (L : Meaning S) (p : Pattern) (K : SinkMeaning) where
   -- a sink before any call of a run
   abbrev before : Standing K.Position → Stage S K.Position
   before s = record { read = []; handed = []; fault = None; sink = s }

@@ -5,7 +5,7 @@ use Rattle.alphabet.specs.Choices.{choices, packed}
 use Rattle.alphabet.specs.Meaning.{Meaning}
 use Rattle.pattern.specs.declared.pattern.Pattern.{Pattern}
 use Rattle.pattern.specs.Patterns.{entry_of}
-use Rattle.sink.specs.Meaning.{Meaning as Sink-meaning}
+use Rattle.sink.specs.Meaning.{Meaning as SinkMeaning}
 use Rattle.walk.specs.Codes.{Code}
 use Rattle.walk.specs.Graphs.{none}
 use Rattle.replay.specs.Bits.{bits_of}
@@ -29,7 +29,7 @@ use Rattle.filing.proofs.Kept.{ok_not_err}
 use Rattle.filing.proofs.Accepted.{classes_known, filed_whole}
 
 module _ {S : Type 0} (L : Meaning S) (p : Pattern) where
-  pub replayed_whole : (K : Sink-meaning) (bits : List ℕ) (w : List S) (g : Code) → Known L p → CodesAs L p w g → bits ≡ packed (choices g) → ReplayedWhole L p K bits w g
+  pub replayed_whole : (K : SinkMeaning) (bits : List ℕ) (w : List S) (g : Code) → Known L p → CodesAs L p w g → bits ≡ packed (choices g) → ReplayedWhole L p K bits w g
   replayed_whole K bits w g known walk packs q s all r q' s' (inl x) = absurd (known_not L (graph p) K q s r q' s' known x)
   replayed_whole K bits w g known walk packs q s all r q' s' (inr x) =
       let c = walk.0 in
@@ -39,7 +39,7 @@ module _ {S : Type 0} (L : Meaning S) (p : Pattern) where
       outcome_whole K q s g r q' s'
       (subst (λ (v : Verdict). Outcome K q s g v r q' s') one.1 (subst (λ (d : Code). Outcome K q s d x.verdict r q' s') same x.outcome)) all
 
-  pub reading_replayed : (K : Sink-meaning) → ReadingReplayed L p K
+  pub reading_replayed : (K : SinkMeaning) → ReadingReplayed L p K
   reading_replayed K manner calls log x n r t log' y R =
       let f = filed_whole L p R in
       record { filed = f; replayed = replayed_whole K _ (fed calls) f.code (classes_known L p bits_and_text R) f.greedy f.chosen }

@@ -2,7 +2,7 @@
 use Rattle.std.specs.Prelude.{ℕ, cond, List, [], ◌∷◌, ◌++◌, take, Ok, Err, ◌==◌}
 use Rattle.alphabet.specs.Meaning.{Meaning}
 use Rattle.pattern.specs.declared.pattern.Pattern.{Pattern}
-use Rattle.sink.specs.Meaning.{Meaning as Sink-meaning}
+use Rattle.sink.specs.Meaning.{Meaning as SinkMeaning}
 use Rattle.walk.specs.Codes.{Code}
 use Rattle.run.specs.declared.calls.Call.{Call}
 use Rattle.run.specs.declared.calls.Call.TheVariants.{Feed, Pour}
@@ -12,7 +12,7 @@ use Rattle.run.specs.Stages.{Stage}
 use Rattle.run.specs.Performed.{Through}
 
 -- the bytes that items add to channel c of a sink, one after another, from the position p on
-abbrev pub written : (K : Sink-meaning) → ℕ → K.Position → Code → List ℕ
+abbrev pub written : (K : SinkMeaning) → ℕ → K.Position → Code → List ℕ
 written K c p [] = []
 written K c p (i ∷ is) = K.added p i c ++ written K c (K.next p i) is
 
@@ -29,7 +29,7 @@ brought c (Pour channel) (Fed r) u = []
 brought c (Pour channel) (Poured (Ok n)) u = cond (c == channel) (take n u) []
 brought c (Pour channel) (Poured (Err f)) u = []
 
-module _ {S : Type 0} (L : Meaning S) (p : Pattern) (K : Sink-meaning) where
+module _ {S : Type 0} (L : Meaning S) (p : Pattern) (K : SinkMeaning) where
   -- what a list of calls draws from channel c, call after call
   abbrev pub drawn : ℕ → (a : Stage S K.Position) (x : List ℕ) (calls : List (Call S)) (answers : List Answer) (z : Stage S K.Position) (y : List ℕ)
       → Through L p K a x calls answers z y → List ℕ

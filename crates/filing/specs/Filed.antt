@@ -9,7 +9,7 @@ use Rattle.pattern.specs.Patterns.{entry_of}
 use Rattle.sink.specs.declared.pair.Pair.{Pair}
 use Rattle.sink.specs.declared.bits.Bits.{Bits}
 use Rattle.sink.specs.BitsState.{bits_position, bits_stock}
-use Rattle.sink.specs.Meaning.{Meaning as Sink-meaning, Stocks, nothing}
+use Rattle.sink.specs.Meaning.{Meaning as SinkMeaning, Stocks, nothing}
 use Rattle.sink.specs.BitsMeaning.{bits_meaning, unfilled, ended}
 use Rattle.sink.specs.PairMeaning.{pair_meaning, pair_stocks, first_channel, second_channel}
 use Rattle.sink.specs.Handing.{moved_by, grown_by, all_taken}
@@ -29,7 +29,7 @@ use Rattle.run.specs.Performed.{Reads}
 use Rattle.filing.specs.Channels.{fed, drawn}
 
 -- the pair of a sink of bits and a sink of text
-abbrev pub bits_and_text : Sink-meaning
+abbrev pub bits_and_text : SinkMeaning
 bits_and_text = pair_meaning bits_meaning text_meaning
 
 -- where it stands with both fresh
@@ -67,7 +67,7 @@ module _ {S : Type 0} (L : Meaning S) (p : Pattern) where
     pub over : last ≡ (ended, text_ended)
 
   -- a replay of the bits over the symbols w hands exactly these items to any sink that takes them, wherever it stands and whatever it holds
-  abbrev pub ReplayedWhole : Sink-meaning → List ℕ → List S → Code → Type 0
+  abbrev pub ReplayedWhole : SinkMeaning → List ℕ → List S → Code → Type 0
   ReplayedWhole K bits w items = (q : K.Position) (s : Stocks) → all_taken K q s items ≡ true →
       (r : Result ℕ Fault) (q' : K.Position) (s' : Stocks) → Replays L (graph p) (entry_of p) bits w K q s r q' s' →
       (r ≡ Ok (length items)) × (q' ≡ moved_by K q items) × (s' ≡ grown_by K q s items)
@@ -83,7 +83,7 @@ module _ {S : Type 0} (L : Meaning S) (p : Pattern) where
     Files r = FiledWhole manner (fed calls) (brought_to bits_channel) (brought_to text_channel) r t.position
 
     -- and the bits replay to the same items
-    pub record FilesAgain (K : Sink-meaning) (r : Finished) : Type 0 where
+    pub record FilesAgain (K : SinkMeaning) (r : Finished) : Type 0 where
       pub filed : Files r
       pub replayed : ReplayedWhole K (brought_to bits_channel) (fed calls) filed.code
 
@@ -95,7 +95,7 @@ module _ {S : Type 0} (L : Meaning S) (p : Pattern) where
 
   -- THE LAW. The bits and the text of an accepted reading into fresh sinks are the greedy walk's, however the input was cut into feeds and however the
   -- sinks were poured in between; and a replay of these bits over the same symbols hands the same items to any sink that takes them.
-  abbrev pub ReadingReplayed : Sink-meaning → Type 0
+  abbrev pub ReadingReplayed : SinkMeaning → Type 0
   ReadingReplayed K = (manner : Manner) (calls : List (Call S)) (log : List Answer) (x : List ℕ) (n : ℕ) (r : Finished) (t : Standing bits_and_text.Position)
       (log' : List Answer) (y : List ℕ) (R : Reads L p bits_and_text (fresh p manner) calls log x true n (Some (Ok r)) t log' y) → FilesAgain R K r
 

@@ -3,7 +3,7 @@ use Rattle.std.specs.Prelude.{◌≡◌, ℕ, Bool, ◌⊎◌, List, ◌++◌, l
 use Rattle.fault.specs.declared.refusal.Fault.{Fault}
 use Rattle.alphabet.specs.Meaning.{Meaning}
 use Rattle.pattern.specs.declared.pattern.Pattern.{Pattern}
-use Rattle.sink.specs.Meaning.{Meaning as Sink-meaning}
+use Rattle.sink.specs.Meaning.{Meaning as SinkMeaning}
 use Rattle.sink.specs.Handing.{moved_by}
 use Rattle.walk.specs.Codes.{Code, Begins}
 use Rattle.run.specs.declared.calls.Call.{Call}
@@ -15,7 +15,7 @@ use Rattle.run.specs.Stages.{Stage}
 use Rattle.run.specs.Performed.{Reads}
 use Rattle.filing.specs.Channels.{written, fed, drawn}
 
-module _ {S : Type 0} (L : Meaning S) (p : Pattern) (K : Sink-meaning) where
+module _ {S : Type 0} (L : Meaning S) (p : Pattern) (K : SinkMeaning) where
   -- The items handed over in all, from the last stage a and the finish's answer, if any; t is where the sink stands then. With no finish they are those of
   -- the calls. An answered finish has counted them, and they are the greedy code of the symbols read. A refused finish has handed over nothing, or the
   -- beginning of the rest of the greedy code that ends just before an item that the sink refuses.

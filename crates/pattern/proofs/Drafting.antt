@@ -94,7 +94,7 @@ below d e f es x h =
 
 -- a sequence: older and later are the parts read, ys the points of the older one with its follower put in
 module _ (d : Draft) (e f : Expr) (es : List Expr) (h : Holds d (f ∷ e ∷ es)) (older later : Part)
-    (is-older : older ≡ spot e es) (is_later : later ≡ spot f (e ∷ es)) (k : ℕ) (long : d.count ≤ length d.points) where
+    (is_older : older ≡ spot e es) (is_later : later ≡ spot f (e ∷ es)) (k : ℕ) (long : d.count ≤ length d.points) where
   pub joined_points : (ys : List Point) → ys ≡ map (fill later.entry) (take (later.start - older.start) (drop older.start d.points))
       → take d.count (put_mid older.start (later.start - older.start) d.points ys) ≡ laid (seq e f ∷ es)
   joined_points ys hy =
@@ -102,7 +102,7 @@ module _ (d : Draft) (e f : Expr) (es : List Expr) (h : Holds d (f ∷ e ∷ es)
       let t = length (bytes es) in
       let m = table e b open_end t in
       let q = table f (b + size e) open_end (length (bytes es ++ texts e)) in
-      let o : older.start ≡ b = ap (λ p. p.start) is-older in
+      let o : older.start ≡ b = ap (λ p. p.start) is_older in
       let l : later.start ≡ b + size e = ap (λ p. p.start) is_later in
       let kf : later.entry ≡ entry f (b + size e) open_end = ap (λ p. p.entry) is_later in
       take_mid d.points d.count (fill later.entry) (laid es) m q ys older.start (later.start - older.start)
@@ -114,7 +114,7 @@ module _ (d : Draft) (e f : Expr) (es : List Expr) (h : Holds d (f ∷ e ∷ es)
 
   pub joined_entry : k ≡ known later.entry older.entry → k ≡ entry (seq e f) (total es) open_end
   joined_entry hk =
-      hk ∙ ap (known later.entry) (ap (λ p. p.entry) is-older)
+      hk ∙ ap (known later.entry) (ap (λ p. p.entry) is_older)
       ∙ known_entry e (total es) open_end later.entry (omega (arith, h.few))
       ∙ ap (entry e (total es)) (ap (λ p. p.entry) is_later)
 
@@ -144,7 +144,7 @@ module _ (d : Draft) (e f : Expr) (es : List Expr) (h : Holds d (f ∷ e ∷ es)
         used = h.used ∙ ap length (append_assoc (bytes es) (texts e) (texts f));
         little = omega (arith, h.little, ap length (append_assoc (bytes es) (texts e) (texts f)));
         parts = two_parts (record { start = older.start; entry = k })
-            ∙ ap (λ i. parts es ++ record { start = i; entry = k } ∷ []) (ap (λ p. p.start) is-older)
+            ∙ ap (λ i. parts es ++ record { start = i; entry = k } ∷ []) (ap (λ p. p.start) is_older)
             ∙ ap (λ i. parts es ++ record { start = total es; entry = i } ∷ []) (joined_entry hk);
         height = omega (arith, h.height);
         low = omega (arith, h.low);
@@ -167,7 +167,7 @@ module _ (d : Draft) (e f : Expr) (es : List Expr) (h : Holds d (f ∷ e ∷ es)
       let t = length (bytes es) in
       let m = table e b open_end t in
       let q = table f (b + size e) open_end (length (bytes es ++ texts e)) in
-      let ke : older.entry ≡ entry e b open_end = ap (λ p. p.entry) is-older in
+      let ke : older.entry ≡ entry e b open_end = ap (λ p. p.entry) is_older in
       let kf : later.entry ≡ entry f (b + size e) open_end = ap (λ p. p.entry) is_later in
       let c : d.count ≡ b + (size e + size f) = omega (arith, h.count) in
       record {
@@ -184,7 +184,7 @@ module _ (d : Draft) (e f : Expr) (es : List Expr) (h : Holds d (f ∷ e ∷ es)
         used = h.used ∙ ap length (append_assoc (bytes es) (texts e) (texts f));
         little = omega (arith, h.little, ap length (append_assoc (bytes es) (texts e) (texts f)));
         parts = two_parts (record { start = older.start; entry = d.count })
-            ∙ ap (λ i. parts es ++ record { start = i; entry = d.count } ∷ []) (ap (λ p. p.start) is-older)
+            ∙ ap (λ i. parts es ++ record { start = i; entry = d.count } ∷ []) (ap (λ p. p.start) is_older)
             ∙ ap (λ i. parts es ++ record { start = total es; entry = i } ∷ []) c;
         height = omega (arith, h.height);
         low = omega (arith, h.low);

@@ -15,7 +15,7 @@ use Rattle.walk.proofs.Lists.{Lists, lists_all, lists_next}
 use Rattle.tree.specs.declared.paths.PathTree.{PathTree}
 use Rattle.tree.specs.Limits.{countable, capacity}
 use Rattle.tree.specs.Held.{Held, Start, room}
-use Rattle.tree.specs.Prefixes.{Once as Once-there, Counts as Counted}
+use Rattle.tree.specs.Prefixes.{Once as OnceThere, Counts as Counted}
 use Rattle.reader.specs.declared.state.Walk.{Walk}
 use Rattle.reader.specs.declared.state.Line.{Line}
 use Rattle.reader.specs.declared.state.Core.{Core}
@@ -170,7 +170,7 @@ mem_from t [] m = absurd m
 mem_from t (u ∷ ts) (inl e) = Memᴰ.head e
 mem_from t (u ∷ ts) (inr m) = Memᴰ.tail (mem_from t ts m)
 
-once_to : (ts : List Code) → Once-there ts → Once ts
+once_to : (ts : List Code) → OnceThere ts → Once ts
 once_to [] o = tt
 once_to (t ∷ ts) o = (λ m. o.0 (mem_from t ts m), once_to ts o.1)
 

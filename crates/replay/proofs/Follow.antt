@@ -192,7 +192,7 @@ module _ {Symbol : Type 0} (L : Letters Symbol) (e : Expr) (sound : SoundGraph (
       accepted = accepted_so;
       hands = outcome_so;
       begins = begins_so;
-      otherwise = λ none-such. not_ok r (λ n k. let t = accepted_so n k in none-such t.0 t.1);
+      otherwise = λ none_such. not_ok r (λ n k. let t = accepted_so n k in none_such t.0 t.1);
       one = λ c d f g. snoc_same c d end_mark (sym (traced_so c f).0 ∙ (traced_so d g).0);
     }
 
@@ -205,11 +205,11 @@ module _ {Symbol : Type 0} (L : Letters Symbol) (e : Expr) (sound : SoundGraph (
           )
 
       broken_so : ((c : Code) → Filed L e bytes w c → ⊥) → x.verdict ≡ broken
-      broken_so none-such =
+      broken_so none_such =
           elim (either_verdict x.verdict) [
             | inl b ↦
                 let t = accepted_so _ (x.outcome.answers ∙ full_complete (hand_answer m p s x.code) (taken_items m p s x.code) x.code x.verdict all b) in
-                absurd (none-such t.0 t.1)
+                absurd (none_such t.0 t.1)
             | inr b ↦ b
           ]
 
@@ -223,8 +223,8 @@ module _ {Symbol : Type 0} (L : Letters Symbol) (e : Expr) (sound : SoundGraph (
       follows_all = record {
         exactly = (λ i. let t = accepted_so i.0 i.1 in (t.0, t.1), λ f. (length f.0 + 1, (hands_so f.0 f.1).0));
         hands = hands_so;
-        otherwise = λ none-such.
-            (reads_in x.code, x.outcome.answers ∙ full_broken (hand_answer m p s x.code) (taken_items m p s x.code) x.code x.verdict all (broken_so none-such));
+        otherwise = λ none_such.
+            (reads_in x.code, x.outcome.answers ∙ full_broken (hand_answer m p s x.code) (taken_items m p s x.code) x.code x.verdict all (broken_so none_such));
         greedy = greedy_so;
       }
 

@@ -109,13 +109,13 @@ module _ {Symbol : Type 0} (L : Letters Symbol) (P : Pattern) where
       let o = subst (λ (d : Code). Outcome n (unfilled [], q) (pair_stocks nothing t) d complete r p s) (sym y.2) (f.hands c (greedy_filed e w g y)) in
       let k = outcome_whole n (unfilled [], q) (pair_stocks nothing t) g r p s o all in
       let bits = (each_taken bits_meaning m (unfilled []) q nothing t g all).0 in
-      let marked-bits = subst (λ (d : Code). all_taken bits_meaning (unfilled []) nothing d ≡ true) y.2 bits in
+      let marked_bits = subst (λ (d : Code). all_taken bits_meaning (unfilled []) nothing d ≡ true) y.2 bits in
       record {
         answers = k.0;
         moved = k.1 ∙ moved_pair_by bits_meaning m (unfilled []) q g
-            ∙ ap (λ (z : BitsPosition). (z, moved_by m q g)) (ap (moved_by bits_meaning (unfilled [])) y.2 ∙ bits_moved c marked-bits);
+            ∙ ap (λ (z : BitsPosition). (z, moved_by m q g)) (ap (moved_by bits_meaning (unfilled [])) y.2 ∙ bits_moved c marked_bits);
         stocked = k.2 ∙ grown_pair_by bits_meaning m (unfilled []) q nothing t g
-            ∙ ap (λ (z : Stocks). pair_stocks z (grown_by m q t g)) (ap (grown_by bits_meaning (unfilled []) nothing) y.2 ∙ bits_stocked c bytes (greedy_filed e w g y).packs marked-bits);
+            ∙ ap (λ (z : Stocks). pair_stocks z (grown_by m q t g)) (ap (grown_by bits_meaning (unfilled []) nothing) y.2 ∙ bits_stocked c bytes (greedy_filed e w g y).packs marked_bits);
       }
 
 -- after the end mark a sink of text has ended

@@ -5,7 +5,7 @@
 // Files, bits and symbols are pairs of hexadecimal digits.
 #![tactic(auto)]
 
-use alphabet::{Alphabet, Bytes};
+use alphabet::Bytes;
 use anyhow::anyhow;
 use fault::Fault;
 use few::Few;

@@ -8,11 +8,11 @@ use Rattle.pattern.specs.declared.pattern.Pattern.{Pattern}
 use Rattle.point_set.specs.declared.set.PointSet.{PointSet}
 use Rattle.point_set.specs.Flags.{tally}
 use Rattle.point_set.specs.Members.{members, point_count}
-use Rattle.sink.specs.Meaning.{Meaning as Sink-meaning}
+use Rattle.sink.specs.Meaning.{Meaning as SinkMeaning}
 use Rattle.walk.specs.Codes.{Code}
 use Rattle.reader.specs.declared.stop.Stop.{Stop}
-use Rattle.reader.specs.Reading.{StateOf as Reading-of}
-use Rattle.reader.specs.Calls.{Finishes, Finished as Answered-at, ShowsLive}
+use Rattle.reader.specs.Reading.{StateOf as ReadingOf}
+use Rattle.reader.specs.Calls.{Finishes, Finished as AnsweredAt, ShowsLive}
 use Rattle.run.specs.declared.finished.Finished.{Finished}
 use Rattle.walk.specs.Graphs.{ClassesBelow}
 use Rattle.run.specs.Words.{graph_of, Known, Unknown, Accepts, CodesAs}
@@ -49,7 +49,7 @@ module _ {S : Type 0} (L : Meaning S) (p : Pattern) where
         stands = stands_nothing L p s [] f;
       }
 
-  module _ (K : Sink-meaning) where
+  module _ (K : SinkMeaning) where
     pub open_refused : (s : Standing K.Position) (d : Inner) → Unknown L p
         → d.read ≡ 0 → d.handed ≡ 0 → d.fault ≡ Some (fault_at UnknownClass 0) → Opens L p K s 0 d s
     open_refused s d u dr dh df = (
@@ -62,10 +62,10 @@ module _ {S : Type 0} (L : Meaning S) (p : Pattern) where
 
     -- the first items taken, or one refused
     pub open_given : Inhabited L → (s t : Standing K.Position) (d : Inner) (xs : Code) (n : ℕ) (r : Result (Unit {0}) Fault) → Known L p
-        → Reading-of L p d.core [] xs → d.stop ≡ None → d.read ≡ 0 → d.handed ≡ n → d.fault ≡ result_err r
+        → ReadingOf L p d.core [] xs → d.stop ≡ None → d.read ≡ 0 → d.handed ≡ n → d.fault ≡ result_err r
         → Gives K s xs 0 n r t → Opens L p K s n d t
     open_given some s t d xs n (Ok u) known R ds dr dh df G =
-        let R' : Reading-of L p d.core [] G.done = subst (λ (h : Code). Reading-of L p d.core [] h) G.ended R in
+        let R' : ReadingOf L p d.core [] G.done = subst (λ (h : Code). ReadingOf L p d.core [] h) G.ended R in
         let l = live_of L p d.core [] G.done R' in (
           record { read = []; handed = G.done; fault = None; sink = t },
           (
@@ -120,12 +120,12 @@ module _ {S : Type 0} (L : Meaning S) (p : Pattern) where
         }
 
     -- an input that is not accepted: the reader does not answer that it is
-    not_so : (r : Result Bool Stop) (w : List S) (h xs : Code) → accepted_in r ≡ false → Answered-at L p r w h xs → Accepts L p w → ⊥
+    not_so : (r : Result Bool Stop) (w : List S) (h xs : Code) → accepted_in r ≡ false → AnsweredAt L p r w h xs → Accepts L p w → ⊥
     not_so (Ok true) w h xs n A = absurd (both_ways true n refl)
     not_so (Ok false) w h xs n A = A.0
     not_so (Err f) w h xs n A = absurd A
 
-    is_so : (r : Result Bool Stop) (w : List S) (h xs : Code) → accepted_in r ≡ true → Answered-at L p r w h xs → CodesAs L p w (h ++ xs)
+    is_so : (r : Result Bool Stop) (w : List S) (h xs : Code) → accepted_in r ≡ true → AnsweredAt L p r w h xs → CodesAs L p w (h ++ xs)
     is_so (Ok true) w h xs n A = A
     is_so (Ok false) w h xs n A = absurd (both_ways false refl n)
     is_so (Err f) w h xs n A = absurd A

@@ -5,7 +5,7 @@ use lib.Seq.{split_at}
 use Rattle.fault.specs.declared.refusal.Fault.{Fault}
 use Rattle.alphabet.specs.Meaning.{Meaning}
 use Rattle.pattern.specs.declared.pattern.Pattern.{Pattern}
-use Rattle.sink.specs.Meaning.{Meaning as Sink-meaning, Stocks, take_answer, grown}
+use Rattle.sink.specs.Meaning.{Meaning as SinkMeaning, Stocks, take_answer, grown}
 use Rattle.sink.specs.Handing.{moved_by, grown_by, hand_answer, all_taken}
 use Rattle.sink.proofs.Handings.{moved_by_append, grown_by_append}
 use Rattle.walk.specs.Codes.{Code}
@@ -15,7 +15,7 @@ use Rattle.run.specs.Stages.{Stage, AllReadable, FedEnded, told}
 use Rattle.run.specs.Inner.{Inner, FeedsOpen, Feeds}
 use Rattle.run.proofs.Standings.{never_none}
 
-module _ (K : Sink-meaning) where
+module _ (K : SinkMeaning) where
   pub after_append : (t : Standing K.Position) (xs ys : Code) → after_items K t (xs ++ ys) ≡ after_items K (after_items K t xs) ys
   after_append t xs ys =
       ap₂ (λ (a : K.Position) (b : Stocks). record { position = a; stocks = b }) (moved_by_append K t.position xs ys) (grown_by_append K t.position t.stocks xs ys)
@@ -38,7 +38,7 @@ module _ {S : Type 0} (L : Meaning S) (p : Pattern) where
   each_append w (x ∷ xs) ys h k =
       (h.0, each_append (w ++ (x ∷ [])) xs ys h.1 (subst (λ (v : List S). AllReadable L p v ys) (sym (append_assoc w (x ∷ []) xs)) k))
 
-  module _ (K : Sink-meaning) where
+  module _ (K : SinkMeaning) where
     ended_none : (left : List S) (b : Stage S K.Position) (o : Option Fault) → o ≡ None → left ≡ [] → FedEnded L p K left b o
     ended_none left b None e h = h
     ended_none left b (Some f) e h = never_none (Some f) f refl e
@@ -168,12 +168,12 @@ module _ {S : Type 0} (L : Meaning S) (p : Pattern) where
     whole u v c d s t e h = subst (λ (l : List S). FeedsOpen L p K l c s d t) e h
 
 -- the same at another pattern and meaning that are the same
-pub feeds_as : {S : Type 0} {L N : Meaning S} {p q : Pattern} (K : Sink-meaning) (w : List S) (c d : Inner) (s t : Standing K.Position) → L ≡ N → p ≡ q
+pub feeds_as : {S : Type 0} {L N : Meaning S} {p q : Pattern} (K : SinkMeaning) (w : List S) (c d : Inner) (s t : Standing K.Position) → L ≡ N → p ≡ q
     → FeedsOpen L p K w c s d t → FeedsOpen N q K w c s d t
 feeds_as {S = S} {L = L} {N = N} {p = p} {q = q} K w c d s t le pe h =
     subst (λ (m : Meaning S). FeedsOpen m q K w c s d t) le (subst (λ (x : Pattern). FeedsOpen L x K w c s d t) pe h)
 
-pub feeds_seen : {S : Type 0} {L N : Meaning S} {p q : Pattern} (K : Sink-meaning) (x : S) (c d : Inner) (s t : Standing K.Position) → L ≡ N → p ≡ q
+pub feeds_seen : {S : Type 0} {L N : Meaning S} {p q : Pattern} (K : SinkMeaning) (x : S) (c d : Inner) (s t : Standing K.Position) → L ≡ N → p ≡ q
     → FeedsOpen every p K (see L x ∷ []) c s d t → FeedsOpen every q K (see N x ∷ []) c s d t
 feeds_seen {S = S} {L = L} {N = N} {p = p} {q = q} K x c d s t le pe h =
     subst (λ (m : Meaning S). FeedsOpen every q K (see m x ∷ []) c s d t) le (subst (λ (y : Pattern). FeedsOpen every y K (see L x ∷ []) c s d t) pe h)

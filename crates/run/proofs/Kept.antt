@@ -4,7 +4,7 @@ use mathlib.Core.Logic.{∥∥₁_map}
 use Rattle.fault.specs.declared.refusal.Fault.{Fault}
 use Rattle.alphabet.specs.Meaning.{Meaning}
 use Rattle.pattern.specs.declared.pattern.Pattern.{Pattern}
-use Rattle.sink.specs.Meaning.{Meaning as Sink-meaning}
+use Rattle.sink.specs.Meaning.{Meaning as SinkMeaning}
 use Rattle.reader.specs.Seen.{Seen, every}
 use Rattle.run.specs.Sinks.{Standing}
 use Rattle.run.specs.Stages.{Stage}
@@ -32,10 +32,10 @@ state_with L p c a t st =
 abbrev pub nowhere : Standing (Unit {0})
 nowhere = record { position = tt; stocks = λ _. [] }
 
-pub held_led : (p : Pattern) (K : Sink-meaning) (d : Inner) (t : Standing K.Position) (Q : Stage Seen K.Position → Type 0) → Leads every p K d t Q → Held p d
+pub held_led : (p : Pattern) (K : SinkMeaning) (d : Inner) (t : Standing K.Position) (Q : Stage Seen K.Position → Type 0) → Leads every p K d t Q → Held p d
 held_led p K d t Q l = (with_sink l.0 nowhere, state_with every p d l.0 nowhere l.1.1.0)
 
-pub held_fed : (p q : Pattern) (K : Sink-meaning) (w : List Seen) (c d : Inner) (s t : Standing K.Position) (r : Result ℕ Fault)
+pub held_fed : (p q : Pattern) (K : SinkMeaning) (w : List Seen) (c d : Inner) (s t : Standing K.Position) (r : Result ℕ Fault)
     → q ≡ p → Feeds every p K w c s r d t → ∥ Held p c ∥₁ → ∥ Held q d ∥₁
 held_fed p q K w c d s t r e h k =
     ∥∥₁_map k (λ x. subst (λ (y : Pattern). Held y d) (sym e) (held_led p K d t _ (h (with_sink x.0 s) (state_with every p c x.0 s x.1) refl)))

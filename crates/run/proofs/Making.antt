@@ -4,11 +4,11 @@ use lib.Seq.{sets}
 use Rattle.fault.specs.declared.refusal.Fault.{Fault}
 use Rattle.alphabet.specs.Meaning.{Meaning}
 use Rattle.pattern.specs.declared.pattern.Pattern.{Pattern}
-use Rattle.sink.specs.Meaning.{Meaning as Sink-meaning, Stocks, pour_answer, emptied, fronted}
+use Rattle.sink.specs.Meaning.{Meaning as SinkMeaning, Stocks, pour_answer, emptied, fronted}
 use Rattle.run.specs.declared.calls.Call.{Call}
 use Rattle.run.specs.declared.calls.Call.TheVariants.{Feed, Pour}
 use Rattle.run.specs.declared.calls.Answer.{Answer}
-use Rattle.run.specs.declared.calls.Answer.TheVariants.{Fed as Fed-answer, Poured as Poured-answer}
+use Rattle.run.specs.declared.calls.Answer.TheVariants.{Fed as FedAnswer, Poured as PouredAnswer}
 use Rattle.run.specs.declared.finished.Finished.{Finished}
 use Rattle.run.specs.Sinks.{Standing}
 use Rattle.run.specs.Giving.{stand}
@@ -18,23 +18,23 @@ use Rattle.run.specs.Inner.{Inner, StateOf, Feeds, Opens, Closes}
 use Rattle.run.specs.Calls.{Makes, MakesAll}
 use Rattle.run.proofs.Kept.{state_with}
 
-module _ {S : Type 0} (L : Meaning S) (p : Pattern) (K : Sink-meaning) where
+module _ {S : Type 0} (L : Meaning S) (p : Pattern) (K : SinkMeaning) where
   pub feed_makes : (call : Call S) (piece : Bor (List S)) (x : List ℕ) (c d : Inner) (s t : Standing K.Position) (r : Result ℕ Fault)
-      → call ≡ Feed piece → Feeds L p K piece.now c s r d t → Makes L p K call x c s (Fed-answer r) d t x
+      → call ≡ Feed piece → Feeds L p K piece.now c s r d t → Makes L p K call x c s (FedAnswer r) d t x
   feed_makes call piece x c d s t r e h a st es =
       let (b, (f, q)) = h a st es in
-      (b, (subst (λ (k : Call S). Done L p K k a x (Fed-answer r) b x) (sym e) (f, refl), q))
+      (b, (subst (λ (k : Call S). Done L p K k a x (FedAnswer r) b x) (sym e) (f, refl), q))
 
   pub pour_makes : (call : Call S) (channel : ℕ) (x y : List ℕ) (c : Inner) (o o' : K.Position) (k k' : Stocks) (r : Result ℕ Fault)
       → call ≡ Pour channel → r ≡ pour_answer K k channel (length x) → o' ≡ o → k' ≡ cond (is_ok r) (emptied k channel) k → y ≡ cond (is_ok r) (fronted (k channel) x) x
-      → Makes L p K call x c (stand o k) (Poured-answer r) c (stand o' k') y
+      → Makes L p K call x c (stand o k) (PouredAnswer r) c (stand o' k') y
   pour_makes call channel x y c o o' k k' r e re oe ke ye a st es =
       let b : Stage S K.Position = with_sink a (after_pour a.sink channel r) in
       let pe : a.sink.position ≡ o = ap (λ (t : Standing K.Position). t.position) es in
       let se : a.sink.stocks ≡ k = ap (λ (t : Standing K.Position). t.stocks) es in (
         b,
         (
-          subst (λ (v : Call S). Done L p K v a x (Poured-answer r) b y) (sym e)
+          subst (λ (v : Call S). Done L p K v a x (PouredAnswer r) b y) (sym e)
               (record {
                 answer = re ∙ ap (λ (m : Stocks). pour_answer K m channel (length x)) (sym se);
                 after = refl;
@@ -70,7 +70,7 @@ sets_more : {A : Type 0} (l : List A) (i : ℕ) (rs : List A) (r : A) → sets l
 sets_more l i [] r = ap (λ n. set l n r) (sym (add-zero i))
 sets_more l i (v ∷ vs) r = sets_more (set l i v) (suc i) vs r ∙ ap (λ n. set (sets (set l i v) (suc i) vs) n r) (omega arith)
 
-module _ {S : Type 0} (L : Meaning S) (p : Pattern) (K : Sink-meaning) where
+module _ {S : Type 0} (L : Meaning S) (p : Pattern) (K : SinkMeaning) where
   makes_more : (calls : List (Call S)) (i : ℕ) (call : Call S) (log log₁ log₂ : List Answer) (x u y : List ℕ) (c d e : Inner) (s t w : Standing K.Position) (r : Answer)
       → call ≡ get_or calls i call → i < length calls
       → MakesAll L p K (take i calls) log x c s d t log₁ u → Makes L p K call u d t r e w y → log₂ ≡ set log₁ i r
@@ -110,7 +110,7 @@ module _ {S : Type 0} (L : Meaning S) (p : Pattern) (K : Sink-meaning) where
   ends_open d w finish fe a st es = subst (λ (b : Bool). Ends L p K b a None w) (sym fe) (sym es)
 
 -- the same at another pattern and meaning that are the same
-module _ {S : Type 0} {L N : Meaning S} {p q : Pattern} (K : Sink-meaning) (le : L ≡ N) (pe : p ≡ q) where
+module _ {S : Type 0} {L N : Meaning S} {p q : Pattern} (K : SinkMeaning) (le : L ≡ N) (pe : p ≡ q) where
   pub makes_as : (call : Call S) (x : List ℕ) (c : Inner) (s : Standing K.Position) (r : Answer) (d : Inner) (t : Standing K.Position) (y : List ℕ)
       → Makes L p K call x c s r d t y → Makes N q K call x c s r d t y
   makes_as call x c s r d t y h =

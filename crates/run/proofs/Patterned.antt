@@ -66,9 +66,9 @@ module _ (p : Pattern) where
         ∥∥₁_map p.made (λ m.
         let e = m.0 in
         let Q : List Point → ℕ → Type 0 = λ ps i. ClassesBelow L.classes (step_at ps) → Live L (step_at ps) i w q c → (u : List S) × Accepted L (step_at ps) i (length ps) (w ++ u) in
-        let at-start : Q (points e) (start e) = λ below x.
+        let at_start : Q (points e) (start e) = λ below x.
         let g = live_goes_on L some e below w q c x in
         (g.0, subst (λ (n : ℕ). Accepted L (steps e) (start e) n (w ++ g.0)) (sym (long e)) g.1) in
-        let at-points : Q (points_of p) (start e) = subst (λ (ps : List Point). Q ps (start e)) (sym m.1.points) at-start in
-        let at-pattern : Q (points_of p) (entry_of p) = subst (λ (i : ℕ). Q (points_of p) i) (sym m.1.entry) at-points in
-        at-pattern known l)
+        let at_points : Q (points_of p) (start e) = subst (λ (ps : List Point). Q ps (start e)) (sym m.1.points) at_start in
+        let at_pattern : Q (points_of p) (entry_of p) = subst (λ (i : ℕ). Q (points_of p) i) (sym m.1.entry) at_points in
+        at_pattern known l)

@@ -11,7 +11,7 @@ use Rattle.walk.specs.Tree.{Member}
 use Rattle.walk.proofs.Sharing.{begins_both}
 use Rattle.walk.proofs.Ends.{shared_begins}
 use Rattle.reader.specs.declared.state.Core.{Core}
-use Rattle.reader.specs.Reading.{StateOf as Reading-of, TooBig}
+use Rattle.reader.specs.Reading.{StateOf as ReadingOf, TooBig}
 use Rattle.run.specs.Words.{graph_of, end_of, Lives, Shares, Accepts, CodesAs, Hopeful}
 use Rattle.run.specs.Sinks.{Standing}
 use Rattle.run.specs.Stages.{Stands}
@@ -43,7 +43,7 @@ module _ {S : Type 0} (L : Meaning S) (p : Pattern) where
   live_in w h [] sh sound complete = absurd (none_shared w h (λ q c l. (complete q c l.0).1) sh)
   live_in w h (r ∷ rs) sh sound complete = (r.point, (h ++ r.code, sound r.point (h ++ r.code) (inl (refl, refl))))
 
-  pub live_of : (s : Core) (w : List S) (h : Code) → Reading-of L p s w h → (q : ℕ) × ((c : Code) × Lives L p w q c)
+  pub live_of : (s : Core) (w : List S) (h : Code) → ReadingOf L p s w h → (q : ℕ) × ((c : Code) × Lives L p w q c)
   live_of s w h R = live_in w h R.walks R.shared R.lists.sound R.lists.complete
 
   -- and where the tree counts too many

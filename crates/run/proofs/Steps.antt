@@ -4,12 +4,12 @@ use Rattle.fault.specs.declared.refusal.Fault.{Fault}
 use Rattle.fault.specs.declared.cause.Cause.TheVariants.{LengthLimit}
 use Rattle.alphabet.specs.Meaning.{Meaning}
 use Rattle.pattern.specs.declared.pattern.Pattern.{Pattern}
-use Rattle.sink.specs.Meaning.{Meaning as Sink-meaning}
+use Rattle.sink.specs.Meaning.{Meaning as SinkMeaning}
 use Rattle.walk.specs.Codes.{Code}
 use Rattle.reader.specs.declared.state.Core.{Core}
 use Rattle.reader.specs.declared.stop.Stop.{Stop}
 use Rattle.reader.specs.declared.stop.Stop.TheVariants.{Dead, TreeFull}
-use Rattle.reader.specs.Reading.{StateOf as Reading-of, Advances}
+use Rattle.reader.specs.Reading.{StateOf as ReadingOf, Advances}
 use Rattle.run.specs.Limits.{length_limit}
 use Rattle.run.specs.Words.{Hopeful}
 use Rattle.run.specs.Sinks.{Standing}
@@ -24,7 +24,7 @@ use Rattle.run.proofs.Standings.{never_none, live_of, live_big, stands_open, sta
 abbrev pub Inhabited : {S : Type 0} → Meaning S → Type 0
 Inhabited {S = S} L = (class : ℕ) → class < L.classes → (s : S) × (L.belongs class s ≡ true)
 
-module _ {S : Type 0} (L : Meaning S) (p : Pattern) (K : Sink-meaning) where
+module _ {S : Type 0} (L : Meaning S) (p : Pattern) (K : SinkMeaning) where
   -- a symbol refused by the run itself
   symbol_refused : (c d : Inner) (s : Standing K.Position) (x : S) (f : Fault)
       → d.read ≡ c.read → d.handed ≡ c.handed → d.fault ≡ Some f
@@ -88,7 +88,7 @@ module _ {S : Type 0} (L : Meaning S) (p : Pattern) (K : Sink-meaning) where
         st.count
 
     -- the symbol is readable
-    readable : (s : Core) (w : List S) (h : Code) (x : S) → Inhabited L → length w < length_limit → Hopeful L p (w ++ (x ∷ [])) → Reading-of L p s (w ++ (x ∷ [])) h → Readable L p w x
+    readable : (s : Core) (w : List S) (h : Code) (x : S) → Inhabited L → length w < length_limit → Hopeful L p (w ++ (x ∷ [])) → ReadingOf L p s (w ++ (x ∷ [])) h → Readable L p w x
     readable s w h x some few hope R =
         record { short = few; alive = hope; count = R.size; counts = (h, R.shared, R.counts); within = R.within }
 
@@ -97,12 +97,12 @@ module _ {S : Type 0} (L : Meaning S) (p : Pattern) (K : Sink-meaning) where
         → d.stop ≡ None → d.read ≡ c.read + 1 → d.handed ≡ c.handed + m → d.fault ≡ result_err r
         → Gives K s xs c.read m r t
         → (a : Stage S K.Position) → StateOf L p c a → a.sink ≡ s → a.fault ≡ None
-        → length a.read < length_limit → Hopeful L p (a.read ++ (x ∷ [])) → Reading-of L p d.core (a.read ++ (x ∷ [])) (a.handed ++ xs)
+        → length a.read < length_limit → Hopeful L p (a.read ++ (x ∷ [])) → ReadingOf L p d.core (a.read ++ (x ∷ [])) (a.handed ++ xs)
         → Leads L p K d t (λ b. FedOpen L p K (x ∷ []) a b)
     read_on c d s t x xs m (Ok u) ds dr dh df G a st e n few hope R =
         let w = a.read ++ (x ∷ []) in
         let xe = ap (λ (ys : Code). a.handed ++ ys) G.ended in
-        let R' : Reading-of L p d.core w (a.handed ++ G.done) = subst (λ (h : Code). Reading-of L p d.core w h) xe R in
+        let R' : ReadingOf L p d.core w (a.handed ++ G.done) = subst (λ (h : Code). ReadingOf L p d.core w h) xe R in
         let k = st.count in
         let j = st.total in
         let q = length-append a.read (x ∷ []) in

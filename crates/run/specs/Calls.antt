@@ -3,7 +3,7 @@ use Rattle.std.specs.Prelude.{◌≡◌, ℕ, List}
 use Rattle.std.proofs.lemmas.List.Edits.{sets}
 use Rattle.alphabet.specs.Meaning.{Meaning}
 use Rattle.pattern.specs.declared.pattern.Pattern.{Pattern}
-use Rattle.sink.specs.Meaning.{Meaning as Sink-meaning}
+use Rattle.sink.specs.Meaning.{Meaning as SinkMeaning}
 use Rattle.run.specs.declared.calls.Call.{Call}
 use Rattle.run.specs.declared.calls.Answer.{Answer}
 use Rattle.run.specs.Sinks.{Standing}
@@ -11,7 +11,7 @@ use Rattle.run.specs.Stages.{Stage}
 use Rattle.run.specs.Performed.{Done, Through}
 use Rattle.run.specs.Inner.{Inner, StateOf, Leads}
 
-module _ {S : Type 0} (L : Meaning S) (p : Pattern) (K : Sink-meaning) where
+module _ {S : Type 0} (L : Meaning S) (p : Pattern) (K : SinkMeaning) where
   -- one call
   abbrev pub Makes : Call S → List ℕ → Inner → Standing K.Position → Answer → Inner → Standing K.Position → List ℕ → Type 0
   Makes call x c s r d t y =

@@ -10,12 +10,12 @@ use Rattle.pattern.specs.declared.pattern.Pattern.{Pattern}
 use Rattle.pattern.specs.declared.step.Step.TheVariants.{Read}
 use Rattle.point_set.specs.Flags.{tally}
 use Rattle.point_set.specs.Members.{point_count}
-use Rattle.sink.specs.Meaning.{Meaning as Sink-meaning}
+use Rattle.sink.specs.Meaning.{Meaning as SinkMeaning}
 use Rattle.walk.specs.Codes.{Code}
 use Rattle.reader.specs.declared.state.Core.{Core}
 use Rattle.reader.specs.declared.stop.Stop.{Stop}
 use Rattle.reader.specs.declared.stop.Stop.TheVariants as stop
-use Rattle.reader.specs.Reading.{StateOf as Reading-of}
+use Rattle.reader.specs.Reading.{StateOf as ReadingOf}
 use Rattle.reader.specs.Seen.{Seen, every}
 use Rattle.run.specs.declared.finished.Finished.{Finished}
 use Rattle.run.specs.declared.book.Book.{Book}
@@ -58,7 +58,7 @@ module _ {S : Type 0} (L : Meaning S) (p : Pattern) where
     pub fault_is : c.fault ≡ a.fault
     pub known : a.fault ≡ None → Known L p
     pub going : a.fault ≡ None → c.stop ≡ None
-    pub reading : a.fault ≡ None → Reading-of L p c.core a.read a.handed
+    pub reading : a.fault ≡ None → ReadingOf L p c.core a.read a.handed
     pub stands : Stands L p a
 
   -- flags for the points: set exactly where a live walk of w ends
@@ -79,7 +79,7 @@ module _ {S : Type 0} (L : Meaning S) (p : Pattern) where
   abbrev pub CountsLive : Inner → ℕ → Type 0
   CountsLive c n = (a : Stage S (Unit {0})) → StateOf c a → LiveTold a.fault a.read n
 
-  module _ (K : Sink-meaning) where
+  module _ (K : SinkMeaning) where
     -- a call leads to a stage of which it leaves the state, with the sink standing there
     abbrev pub Leads : Inner → Standing K.Position → (Stage S K.Position → Type 0) → Type 0
     Leads c t Q = (b : Stage S K.Position) × (Q b × (StateOf c b × (b.sink ≡ t)))

@@ -4,11 +4,11 @@ use Rattle.std.proofs.lemmas.List.Edits.{sets}
 use Rattle.fault.specs.declared.refusal.Fault.{Fault}
 use Rattle.alphabet.specs.Meaning.{Meaning}
 use Rattle.pattern.specs.declared.pattern.Pattern.{Pattern}
-use Rattle.sink.specs.Meaning.{Meaning as Sink-meaning, pour_answer, emptied, fronted}
+use Rattle.sink.specs.Meaning.{Meaning as SinkMeaning, pour_answer, emptied, fronted}
 use Rattle.run.specs.declared.calls.Call.{Call}
 use Rattle.run.specs.declared.calls.Call.TheVariants.{Feed, Pour}
 use Rattle.run.specs.declared.calls.Answer.{Answer}
-use Rattle.run.specs.declared.calls.Answer.TheVariants.{Fed as Fed-answer, Poured as Poured-answer}
+use Rattle.run.specs.declared.calls.Answer.TheVariants.{Fed as FedAnswer, Poured as PouredAnswer}
 use Rattle.run.specs.declared.finished.Finished.{Finished}
 use Rattle.run.specs.Sinks.{Standing}
 use Rattle.run.specs.Stages.{Stage, Stands, Fed, Opened, Closed}
@@ -22,18 +22,18 @@ abbrev pub after_pour : {P : Type 0} → Standing P → ℕ → Result ℕ Fault
 after_pour s channel r = record { position = s.position; stocks = cond (is_ok r) (emptied s.stocks channel) s.stocks }
 
 -- A pour of a channel, from the stage a with the buffer x, to the stage b with the buffer y: the run is as it was.
-pub record Poured {S : Type 0} (K : Sink-meaning) (channel : ℕ) (a : Stage S K.Position) (x : List ℕ) (r : Result ℕ Fault) (b : Stage S K.Position) (y : List ℕ) : Type 0 where
+pub record Poured {S : Type 0} (K : SinkMeaning) (channel : ℕ) (a : Stage S K.Position) (x : List ℕ) (r : Result ℕ Fault) (b : Stage S K.Position) (y : List ℕ) : Type 0 where
   pub answer : r ≡ pour_answer K a.sink.stocks channel (length x)
   pub after : b ≡ with_sink a (after_pour a.sink channel r)
   pub written : y ≡ cond (is_ok r) (fronted (a.sink.stocks channel) x) x
 
-module _ {S : Type 0} (L : Meaning S) (p : Pattern) (K : Sink-meaning) where
+module _ {S : Type 0} (L : Meaning S) (p : Pattern) (K : SinkMeaning) where
   -- What one call makes of the stage a and the buffer x, with its answer: a feed is answered as a feed and leaves the buffer; a pour as a pour.
   abbrev pub Done : Call S → Stage S K.Position → List ℕ → Answer → Stage S K.Position → List ℕ → Type 0
-  Done (Feed piece) a x (Fed-answer r) b y = Fed L p K piece.now a r b × (y ≡ x)
-  Done (Feed piece) a x (Poured-answer r) b y = ⊥
-  Done (Pour channel) a x (Fed-answer r) b y = ⊥
-  Done (Pour channel) a x (Poured-answer r) b y = Poured K channel a x r b y
+  Done (Feed piece) a x (FedAnswer r) b y = Fed L p K piece.now a r b × (y ≡ x)
+  Done (Feed piece) a x (PouredAnswer r) b y = ⊥
+  Done (Pour channel) a x (FedAnswer r) b y = ⊥
+  Done (Pour channel) a x (PouredAnswer r) b y = Poured K channel a x r b y
 
   -- a list of calls with their answers leads from the stage a to the stage z, by a stage after each call; each stage stands
   abbrev pub Through : Stage S K.Position → List ℕ → List (Call S) → List Answer → Stage S K.Position → List ℕ → Type 0

@@ -5,7 +5,7 @@ use Rattle.fault.specs.declared.cause.Cause.{Cause}
 use Rattle.fault.specs.declared.cause.Cause.TheVariants.{UnreadableNumber, Malformed, PatternLimit, UnknownClass, DeadSymbol, NotAccepted, TreeFull, LengthLimit, NotExpected, ChannelFull, NotAWalk, NoChannel, ShortBuffer}
 use Rattle.alphabet.specs.Meaning.{Meaning}
 use Rattle.pattern.specs.declared.pattern.Pattern.{Pattern}
-use Rattle.sink.specs.Meaning.{Meaning as Sink-meaning}
+use Rattle.sink.specs.Meaning.{Meaning as SinkMeaning}
 use Rattle.walk.specs.Codes.{Code, Begins}
 use Rattle.run.specs.Limits.{length_limit, tree_limit}
 use Rattle.run.specs.Words.{Known, Unknown, Shares, TreeCounts, Accepts, CodesAs, Hopeless, Hopeful}
@@ -80,7 +80,7 @@ module _ {S : Type 0} (L : Meaning S) (p : Pattern) where
     pub due : Due f.cause b.read symbol
     pub there : f.place ≡ length b.read
 
-  module _ (K : Sink-meaning) where
+  module _ (K : SinkMeaning) where
     -- the sink refused an item by which the last symbol read made what is shared grow; what was shared before that symbol is handed over
     pub record ItemRefused (b : Stage S K.Position) (f : Fault) : Type 0 where
       pub before : List S

@@ -1,7 +1,7 @@
 // Pouring into buffers of several lengths.
 use crate::show;
 use alphabet::item::END_MARK;
-use sink::{Bits, Sink, hand_over};
+use sink::{Bits, hand_over};
 use std::io;
 
 // A code of two bytes of bits.

@@ -15,7 +15,7 @@ module _ (root s p x : ℕ) (P P' I I' U U' B B' K K' T T' : ℕ → ℕ) (H H' 
     (Kp : K' p ≡ K p + 1) (Ko : (i : ℕ) → 0 < i → i ≢ p → K' i ≡ K i)
     (Tp : T' p ≡ T p + s) (To : (i : ℕ) → 0 < i → i ≢ p → T' i ≡ T i)
     (par : (i : ℕ) → 0 < P i → 0 < P (P i))
-    (space : p ≢ root → U p < ways) (space-root : p ≡ root → U p ≤ ways) where
+    (space : p ≢ root → U p < ways) (space_root : p ≡ root → U p ≤ ways) where
   root_up : P' root ≡ root
   root_up = grind (arith, cases_eq, Po)
 
@@ -55,7 +55,7 @@ module _ (root s p x : ℕ) (P P' I I' U U' B B' K K' T T' : ℕ → ℕ) (H H' 
   few f i n = grind (arith, cases_eq, Uo, f, space)
 
   few_root : U root ≤ ways + 1 → U' root ≤ ways + 1
-  few_root f = ⊎_elim (λ (e : p ≡ root). let h = space-root e in let w = ap U' e in omega (arith, h, w)) (λ (n : p ≢ root). rw (Uo root (λ e. grind arith) (λ e. n (sym e))) f) (cases_eq p root)
+  few_root f = ⊎_elim (λ (e : p ≡ root). let h = space_root e in let w = ap U' e in omega (arith, h, w)) (λ (n : p ≢ root). rw (Uo root (λ e. grind arith) (λ e. n (sym e))) f) (cases_eq p root)
 
   pub grown_shape : Shape 0 root P I U B K T H → ((i : ℕ) → i ≢ root → P i ≡ p → I i ≡ x → ⊥) → Shape 0 root P' I' U' B' K' T' H'
   grown_shape S new = record {

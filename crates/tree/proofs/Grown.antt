@@ -73,7 +73,7 @@ module _ (t : Table) (p x : ℕ) (S : Sound 0 t) (some : 0 < t.left) (under : 0 
   sums f = total_two f t.entries s (fresh p x) p up s_in p_in p≢s
 
   pub grown_sound : ((i : ℕ) → Child t p i → item_of t i ≡ x → ⊥) → (p ≢ t.root → uses_of t p < ways) → (p ≡ t.root → uses_of t p ≤ ways) → Sound 0 t'
-  grown_sound new space space-root = record {
+  grown_sound new space space_root = record {
     shape = grown_shape t.root s p x (par t) (par t') (item_of t) (item_of t') (uses_of t) (uses_of t') (below_of t) (below_of t') (kids t) (kids t') (kid_slots t) (kid_slots t') (held_of t) (held_of t')
         S.shape.none S.shape.root_in S.shape.root_up last.0 s_free (ap (λ (e : Entry). e.uses) last.2) under
         (ap (λ (e : Entry). e.parent) at_s) par_o
@@ -83,7 +83,7 @@ module _ (t : Table) (p x : ℕ) (S : Sound 0 t) (some : 0 < t.left) (under : 0 
         (ap (λ (e : Entry). e.below) at_s) (ap (λ (e : Entry). e.below) last.2) (ap (λ (e : Entry). e.below) at_p) (λ i n m. ap (λ (e : Entry). e.below) (at_o i n m))
         (more_at _ _ _ _ _ _ _ (sums (kid p)) s_free p0) (λ i h n. more_off _ _ _ _ _ _ _ _ (sums (kid i)) s_free h n)
         (more_at _ _ _ _ _ _ _ (sums (kid_slot p)) s_free p0) (λ i h n. more_off _ _ _ _ _ _ _ _ (sums (kid_slot i)) s_free h n)
-        S.shape.parents space space-root S.shape (λ i n e. new i (n, e));
+        S.shape.parents space space_root S.shape (λ i n e. new i (n, e));
     size = two_length t.entries s (fresh p x) p up ∙ S.size;
     room = S.room;
     spares = spare_left;
@@ -119,8 +119,8 @@ module _ (t : Table) (p x : ℕ) (S : Sound 0 t) (some : 0 < t.left) (under : 0 
       subst (λ (y : ℕ). Up t' s (y ∷ xs)) b (step s xs (rw a p0) (λ e. not_s (rw S.shape.root_up S.shape.root_in) (sym e)) (rw a (grown_old w)))
 
   pub grown_added : ((i : ℕ) → Child t p i → item_of t i ≡ x → ⊥) → (p ≢ t.root → uses_of t p < ways) → (p ≡ t.root → uses_of t p ≤ ways) → Grew t p x s t'
-  grown_added new space space-root = record {
-    sound = grown_sound new space space-root;
+  grown_added new space space_root = record {
+    sound = grown_sound new space space_root;
     root = refl;
     left = omega arith;
     fresh = s_free;

@@ -70,8 +70,8 @@ module _ (t : PathTree) where
       let u = S.shape.holders p h in
       let w = path_up T S p u in
       let us = path T S p in
-      let p-pos = positive 0 T S p u in
-      let cu : 0 < par T c = rw k.1 p-pos in
+      let p_pos = positive 0 T S p u in
+      let cu : 0 < par T c = rw k.1 p_pos in
       let v : Up T c (item_of T c ∷ us) = step c us cu k.0 (subst (λ (j : ℕ). Up T j us) (sym k.1) w) in
       let d = descend T S (suc S.shape.top) c (item_of T c ∷ us) (omega arith) v k.0 in
       let q : reverse (reverse us ++ (item_of T c ∷ reverse d.1)) ≡ d.1 ++ (item_of T c ∷ us) =

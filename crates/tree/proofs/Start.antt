@@ -21,7 +21,7 @@ at_blank (suc n) (suc i) = at_blank n i
 
 module _ (es : List Entry) (size : length es ≡ slot_count) (blanks : (i : ℕ) → at es i ≡ blank)
     (none : (f : ℕ → Entry → ℕ) → ((k : ℕ) → f k blank ≡ 0) → total f 0 es ≡ 0)
-    (sl : List ℕ) (room : length sl ≡ slot_count) (slots-are : (k : ℕ) → k < capacity → get_or sl k 0 ≡ k + reserved) where
+    (sl : List ℕ) (room : length sl ≡ slot_count) (slots_are : (k : ℕ) → k < capacity → get_or sl k 0 ≡ k + reserved) where
   abbrev t : Table
   t = record { entries = set es first_slot first_entry; spare = sl; left = capacity; root = first_slot }
 
@@ -88,8 +88,8 @@ module _ (es : List Entry) (size : length es ≡ slot_count) (blanks : (i : ℕ)
       };
       size = length-set es 1 first_entry ∙ size;
       room = room;
-      spares = λ k h. let e = slots-are k h in (omega (arith, e), omega (arith, e), at_o (get_or sl k 0) (λ z. omega (arith, e)));
-      spares_apart = λ j k hj hk e. let a = slots-are j hj in let b = slots-are k hk in omega (arith, a, b);
+      spares = λ k h. let e = slots_are k h in (omega (arith, e), omega (arith, e), at_o (get_or sl k 0) (λ z. omega (arith, e)));
+      spares_apart = λ j k hj hk e. let a = slots_are j hj in let b = slots_are k hk in omega (arith, a, b);
       filled = let s = sums counts_used (λ k. refl) in omega (arith, s);
     };
     root = refl;

@@ -12,7 +12,7 @@ grow-requires c =
     let t = c.args.self.now in
     let S = c.requires.sound in
     let p = c.args.p in
-    let p-pos = p0 t p c.args.item S c.requires.space c.requires.under in
+    let p_pos = p0 t p c.args.item S c.requires.space c.requires.under in
     let f = S.filled in
     let u : uses_of t p ≤ ways =
     ⊎_elim (λ (e : p ≡ t.root). few_root t S p c.requires.under c.requires.single e)
@@ -20,7 +20,7 @@ grow-requires c =
     record {
       left = (c.requires.space, (omega (arith, f), in_table 0 t S p c.requires.under));
       slot = (last t p c.args.item S c.requires.space c.requires.under).1;
-      fits = (u, below_fit 0 t S p p-pos u);
+      fits = (u, below_fit 0 t S p p_pos u);
       apart = s≢p t p c.args.item S c.requires.space c.requires.under;
     }
 
