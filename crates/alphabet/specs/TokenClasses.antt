@@ -1,6 +1,7 @@
 -- The alphabet of relay events, and the numbers of tokens.
-use Rattle.std.specs.Prelude.{◌≡◌, ℕ, ◌+◌, ◌-◌, ◌*◌, ◌≤◌, Bool, cond, ◌&&◌, ℤ, pos, negsuc, Some, None, Option, ◌==◌, int_le, int_lt, nat_le, nat_lt}
+use Rattle.std.specs.Prelude.{◌≡◌, ℕ, ◌+◌, ◌-◌, ◌*◌, ◌<◌, ◌≤◌, Bool, cond, ◌&&◌, ℤ, pos, negsuc, Some, None, Option, Result, MatchResult, ◌==◌, int_le, int_lt, nat_le, nat_lt}
 use Rattle.alphabet.specs.declared.token.Token.{Token}
+use Rattle.alphabet.specs.declared.token.NoToken.{NoToken}
 use Rattle.alphabet.specs.Bounds.{last_kind, kind_count, offset, values_per_kind, least_value, greatest_value, largest_number}
 use Rattle.alphabet.specs.Meaning.{Meaning}
 
@@ -25,9 +26,9 @@ raised (negsuc n) = offset - (n + 1)
 abbrev pub token_number : Token → ℕ
 token_number t = t.kind * values_per_kind + raised t.value
 
--- the number of the token that is found for n: n, if it is at most the largest, and else there is none
-abbrev pub numbered : ℕ → Option ℕ
-numbered n = cond (nat_le n largest_number) (Some n) None
+-- r is the token that has the number n, or an error with a number that no token has
+abbrev pub Numbers : ℕ → Result Token NoToken → Type 0
+Numbers n r = MatchResult r (λ t. (token_number t ≡ n) × (n ≤ largest_number)) (λ e. (e.0 ≡ n) × (largest_number < n))
 
 -- each number up to the largest is exactly one token's, and no token has another
 pub record NumbersAreTokens : Type 0 where

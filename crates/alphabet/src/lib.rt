@@ -6,13 +6,15 @@ ghost use Rattle.alphabet.specs.Meaning.{Meaning, Lawful};
 pub mod bounds;
 mod bytes;
 pub mod item;
+mod laws;
 #[cfg(test)]
 mod tests;
 mod token;
 mod tokens;
 
 pub use bytes::Bytes;
-pub use token::{Token, numbers_are_tokens};
+pub use laws::numbers_are_tokens;
+pub use token::{NoToken, Token};
 pub use tokens::Tokens;
 
 // An alphabet: a symbol type, a count of classes, which symbols belong to a class, and a number for each symbol.

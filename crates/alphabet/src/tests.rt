@@ -32,10 +32,7 @@ fn bytes_at_the_edges(rt: HostRuntime) {
 }
 
 fn made(kind: u8, value: i16) -> Result<Token, Fail> {
-    match Token::new(kind, value) {
-        Some(token) => Ok(token),
-        None => Err(Fail::new("kind and value in bounds")),
-    }
+    Token::new(kind, value).ok_or(Fail::new("kind and value in bounds"))
 }
 
 #[test]
@@ -54,10 +51,7 @@ fn tokens_at_the_edges(rt: HostRuntime) -> Result<(), Fail> {
             assert!(rt;
                 Tokens.belongs(Tokens::ANY, &token) && !Tokens.belongs(Tokens::CLASSES, &token)
             );
-            let Some(again) = Token::of_number(token.number()) else {
-                return Err(Fail::new("a token's number"));
-            };
-            assert!(rt; again == token);
+            assert_eq!(rt; Token::try_from(u32::from(token)), Ok(token));
         }
     }
     assert_eq!(rt; Tokens.class_count(), 33);
@@ -71,7 +65,7 @@ fn numbers(rt: HostRuntime) -> Result<(), Fail> {
     assert_eq!(rt; item::read_item(&Tokens, Tokens::ANY, &token), Some(10_237));
     assert_eq!(rt; item::read_item(&Tokens, 3, &token), None);
     assert!(rt;
-        Token::new(LAST_KIND + 1, 0).is_none() && Token::of_number(LARGEST_NUMBER + 1).is_none()
+        Token::new(LAST_KIND + 1, 0).is_none() && Token::try_from(LARGEST_NUMBER + 1).is_err()
     );
     assert!(rt;
         Token::new(0, LEAST_VALUE - 1).is_none() && Token::new(0, GREATEST_VALUE + 1).is_none()

@@ -43,6 +43,6 @@ impl Alphabet for Tokens {
     }
 
     fn number(&self, symbol: &Token) -> u32 {
-        symbol.number()
+        u32::from(*symbol)
     }
 }

@@ -15,12 +15,28 @@ pub struct Fault {
 }
 
 impl Fault {
+    // A refusal for this cause at this place.
+    pub fn new(cause: Cause, place: u64) -> Fault
+        ensures { result ≡ record { cause = cause; place = place } }
+    {
+        Fault { cause, place }
+    }
+
+    // The same refusal at another place: whoever calls a sink knows the place, and the sink does not.
+    pub fn at(self, place: u64) -> Fault
+        ensures { result ≡ record { cause = self.cause; place = place } }
+    {
+        Fault { place, ..self }
+    }
+
+    // The number of its cause.
     pub fn number(&self) -> u8
         ensures { result ≡ number self.now.cause }
     {
         self.cause.number()
     }
 
+    // The layer that refuses for its cause.
     pub fn layer(&self) -> Layer
         ensures { result ≡ layer self.now.cause }
     {

@@ -1,5 +1,5 @@
 use Rattle.alphabet.proofs.Numbers.{numbers}
-use Rattle.alphabet.proofs.token.methods.numbers_are_tokens.Goals as goal
+use Rattle.alphabet.proofs.laws.numbers_are_tokens.Goals as goal
 
 pub returns : goal.returns
 returns c = numbers
