@@ -42,9 +42,9 @@ impl Alphabet for Bytes {
         let byte = *symbol;
         match class {
             Bytes::ANY => true,
-            Bytes::DIGIT => byte >= b'0' && byte <= b'9',
-            Bytes::LETTER => (byte >= b'A' && byte <= b'Z') || (byte >= b'a' && byte <= b'z'),
-            Bytes::IN_FIELD => byte != b',' && byte != b'\r' && byte != b'\n',
+            Bytes::DIGIT => byte.is_ascii_digit(),
+            Bytes::LETTER => byte.is_ascii_alphabetic(),
+            Bytes::IN_FIELD => !matches!(byte, b',' | b'\r' | b'\n'),
             Bytes::IN_LINE => byte != b'\n',
             // One byte alone, or past the last class, where no byte is.
             _ => byte as u32 == class,
