@@ -15,3 +15,4 @@ pub mod Routes
 pub mod Theorems
 pub mod Fixing
 pub mod Worked
+pub mod PatternGraphs
