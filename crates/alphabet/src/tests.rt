@@ -32,7 +32,7 @@ fn bytes_at_the_edges(rt: HostRuntime) {
 }
 
 fn made(kind: u8, value: i16) -> Result<Token, Fail> {
-    Token::new(kind, value).ok_or(Fail::new("kind and value in bounds"))
+    Token::new(kind, value).ok_or_else(|| Fail::new("kind and value in bounds"))
 }
 
 #[test]
