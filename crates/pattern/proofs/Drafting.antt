@@ -1,9 +1,13 @@
 -- A draft before and after each of its operations.
-use Rattle.std.proofs.Common.{◌≡◌, ℕ, ◌+◌, ◌-◌, ◌<◌, ◌≤◌, Bool, true, false, cond, ◌&&◌, leb, List, [], ◌∷◌, ◌++◌, map, length, get_or, take, drop, set, Ok, Err, sym, refl, ap, ◌∙◌, subst, append_assoc, arith, length-append, le-leb}
+use Rattle.std.proofs.Common.{◌≡◌, ℕ, ◌+◌, ◌-◌, ◌<◌, ◌≤◌, ◌==◌, suc, max, Bool, true, false, cond, ◌&&◌, leb, List, [], ◌∷◌, ◌++◌, map, length, get_or, take, drop, Ok, Err, sym, refl, ap, ◌∙◌, subst, append_assoc, arith, length-append, le-leb}
+use mathlib.Core.Logic.{∥∥₁_elim, ∥∥₁_map}
+use native.Mathlib.Bridge.{le_prop}
 use borrow.Author.Tests.{lt-leb}
-use Rattle.std.proofs.lemmas.Bool.{and_left, and_right}
 use borrow.Rule.Slice.PartMut.{put_mid}
-use Rattle.std.proofs.lemmas.List.{append-nil, take_more_set, length_push}
+use Rattle.std.specs.List.{refill}
+use Rattle.std.proofs.lemmas.Bool.Decides.{nat_tests}
+use Rattle.std.proofs.lemmas.Bool.{and_left, and_right}
+use Rattle.std.proofs.lemmas.List.{append-nil, length_push}
 use Rattle.fault.specs.declared.cause.Cause.TheVariants.{PatternLimit}
 use Rattle.fault.specs.declared.refusal.Fault.{Fault}
 use Rattle.pattern.specs.declared.point.Point.{Point}
@@ -14,8 +18,9 @@ use Rattle.pattern.specs.Limits.{most_points, most_text, most_standing}
 use Rattle.pattern.specs.Expressions.{Expr, seq, alt, star, size, texts, standing}
 use Rattle.pattern.specs.Points.{entry, table, open_end, known, fill, ComesFrom}
 use Rattle.pattern.specs.Files.{total, bytes, within, refused, leaves, limited}
-use Rattle.pattern.specs.Drafts.{laid, spot, parts, Holds, Done}
-use Rattle.pattern.proofs.Fronts.{get_or_last, get_or_prior, take_set_at, take_mid}
+use Rattle.pattern.specs.Held.{laid, spot, parts, Hold}
+use Rattle.pattern.specs.Drafts.{Holds, Done}
+use Rattle.pattern.proofs.Fronts.{get_or_last, get_or_prior, popped, mapped_part}
 use Rattle.pattern.proofs.Tables.{known_entry, fill_table, length_table}
 
 within_from : (a b c : Bool) → a ≡ true → b ≡ true → c ≡ true → (a && (b && c)) ≡ true
@@ -31,7 +36,7 @@ pub done_in : {T : Type 0} (n at : ℕ) (es : List Expr) (d : Draft) (u : T) →
 done_in n at es d u h =
     subst (λ b. Done (cond b (leaves n es) (refused PatternLimit)) at (Ok u) d) (sym (within_limits es h.few h.little h.low)) (refl, h)
 
--- a limit passed
+-- a limit passed: no more points, no more text bytes or no more expressions have room
 pub done_out : (T : Type 0) (n at : ℕ) (es : List Expr) (d : Draft) (y : Fault) → y ≡ record { cause = PatternLimit; place = at } → within es ≡ false
     → Done {T = T} (limited n es) at (Err y) d
 done_out T n at es d y e h = subst (λ b. Done {T = T} (cond b (leaves n es) (refused PatternLimit)) at (Err y) d) (sym h) (ap Err e)
@@ -49,30 +54,12 @@ count_out es h =
     and_right (leb (total es) most_points) (leb (length (bytes es)) most_text && leb (length es) most_standing)
     (and_right (leb (length (bytes es)) most_text) (leb (length es) most_standing) (lt-leb (length es) most_standing h))
 
--- one more expression, of at most one point
-pub pushed : (d f : Draft) (e : Expr) (es : List Expr) → Holds d es
-    → take f.count f.points ≡ take d.count d.points ++ table e d.count open_end d.used
-    → f.count ≡ d.count + size e → f.count ≤ most_points
-    → take f.used f.text ≡ take d.used d.text ++ texts e
-    → f.used ≡ d.used + length (texts e) → f.used ≤ most_text
-    → take f.height f.parts ≡ take d.height d.parts ++ record { start = d.count; entry = entry e d.count open_end } ∷ []
-    → f.height ≡ d.height + 1 → f.height ≤ most_standing → standing e ≡ 1
-    → Holds f (e ∷ es)
-pushed d f e es h ps nc few ts nu little qs nh low flat =
-    record {
-      points = ps ∙ ap (λ l. l ++ table e d.count open_end d.used) h.points
-          ∙ ap (λ i. laid es ++ table e i open_end d.used) h.count ∙ ap (λ i. laid es ++ table e (total es) open_end i) h.used;
-      count = omega (arith, h.count);
-      few = omega (arith, h.count);
-      text = ts ∙ ap (λ l. l ++ texts e) h.text;
-      used = omega (arith, h.used, length-append (bytes es) (texts e));
-      little = omega (arith, h.used, length-append (bytes es) (texts e));
-      parts = qs ∙ ap (λ l. l ++ record { start = d.count; entry = entry e d.count open_end } ∷ []) h.parts
-          ∙ ap (λ i. parts es ++ record { start = i; entry = entry e i open_end } ∷ []) h.count;
-      height = omega (arith, h.height);
-      low = omega (arith, h.height);
-      stood = (omega (arith, h.height), h.stood);
-    }
+-- what the test for a full vector says
+pub is_full : (n k : ℕ) (b : Bool) → b ≡ (n == k) → b ≡ true → n ≡ k
+is_full n k b e t = grind (arith, nat_tests)
+
+pub has_room : (n k : ℕ) (b : Bool) → b ≡ (n == k) → n ≤ k → b ≡ false → n < k
+has_room n k b e le t = grind (arith, nat_tests)
 
 pub length_laid : (es : List Expr) → length (laid es) ≡ total es
 length_laid [] = refl
@@ -85,199 +72,212 @@ length_parts [] = refl
 length_parts (e ∷ es) =
     omega (arith, length_push (parts es) (spot e es), length_parts es)
 
-pub top : (d : Draft) (e : Expr) (es : List Expr) (x : Part) → Holds d (e ∷ es) → get_or d.parts (d.height - 1) x ≡ spot e es
-top d e es x h = get_or_last d.parts d.height (parts es) (spot e es) x (d.height - 1) h.parts (omega (arith, h.height, length_parts es))
+-- one more expression, of at most one point: b is the number of its point, t where its text begins
+pub pushed : (e : Expr) (es : List Expr) (ps ns : List Point) (ts us : List ℕ) (qs rs : List Part) (b t : ℕ) → Hold ps ts qs es
+    → b ≡ length ps → t ≡ length ts
+    → ns ≡ ps ++ table e b open_end t
+    → us ≡ ts ++ texts e
+    → rs ≡ qs ++ record { start = b; entry = entry e b open_end } ∷ []
+    → b + size e ≤ most_points → length ts + length (texts e) ≤ most_text → length qs < most_standing → standing e ≡ 1
+    → Hold ns us rs (e ∷ es)
+pushed e es ps ns ts us qs rs b t h hb ht hp hu hq few little low flat =
+    let c : b ≡ total es = hb ∙ ap length h.points ∙ length_laid es in
+    let k : length qs ≡ length es = ap length h.parts ∙ length_parts es in
+    let text : us ≡ bytes (e ∷ es) = hu ∙ ap (λ l. l ++ texts e) h.text in
+    record {
+      points = hp ∙ ap (λ l. l ++ table e b open_end t) h.points
+          ∙ ap (λ i. laid es ++ table e i open_end t) c ∙ ap (λ i. laid es ++ table e (total es) open_end i) (ht ∙ ap length h.text);
+      few = omega arith;
+      text = text;
+      little = omega (arith, ap length h.text, length-append (bytes es) (texts e));
+      parts = hq ∙ ap (λ l. l ++ record { start = b; entry = entry e b open_end } ∷ []) h.parts
+          ∙ ap (λ i. parts es ++ record { start = i; entry = entry e i open_end } ∷ []) c;
+      low = omega arith;
+      stood = (omega arith, h.stood);
+    }
 
-pub below : (d : Draft) (e f : Expr) (es : List Expr) (x : Part) → Holds d (f ∷ e ∷ es) → get_or d.parts (d.height - 2) x ≡ spot e es
-below d e f es x h =
-    get_or_prior d.parts d.height (parts es) (spot e es) (spot f (e ∷ es)) x (d.height - 2) h.parts (omega (arith, h.height, length_parts es))
+-- in the parts ss that were read: the last, which is that of the newest expression, and the one before it, that of the expression before
+abbrev pub newest : List Part → Part
+newest ss = get_or ss (length ss - 1) (record { start = 0; entry = 0 })
 
--- a sequence: older and later are the parts read, ys the points of the older one with its follower put in
-module _ (d : Draft) (e f : Expr) (es : List Expr) (h : Holds d (f ∷ e ∷ es)) (older later : Part)
-    (is_older : older ≡ spot e es) (is_later : later ≡ spot f (e ∷ es)) (k : ℕ) (long : d.count ≤ length d.points) where
-  pub joined_points : (ys : List Point) → ys ≡ map (fill later.entry) (take (later.start - older.start) (drop older.start d.points))
-      → take d.count (put_mid older.start (later.start - older.start) d.points ys) ≡ laid (seq e f ∷ es)
-  joined_points ys hy =
+abbrev pub prior : List Part → Part
+prior ss = get_or ss (length ss - 2) (record { start = 0; entry = 0 })
+
+module _ (ps : List Point) (ts : List ℕ) (qs ss : List Part) (same : ss ≡ qs) where
+  newest_is : (e : Expr) (es : List Expr) → Hold ps ts qs (e ∷ es) → newest ss ≡ spot e es
+  newest_is e es h = get_or_last ss (parts es) (spot e es) (record { start = 0; entry = 0 }) (same ∙ h.parts)
+
+  prior_is : (e f : Expr) (es : List Expr) → Hold ps ts qs (f ∷ e ∷ es) → prior ss ≡ spot e es
+  prior_is e f es h = get_or_prior ss (parts es) (spot e es) (spot f (e ∷ es)) (record { start = 0; entry = 0 }) (same ∙ h.parts)
+
+  -- what holds of every list of at least one expression, or two, holds of those that stand
+  pub one_stands : (P : List Expr → Type 0) → 1 ≤ length ss → ((e : Expr) (es : List Expr) → Hold ps ts qs (e ∷ es) → P (e ∷ es))
+      → (es : List Expr) → Hold ps ts qs es → P es
+  one_stands P le f [] h = absurd (omega (arith, ap length same, ap length h.parts))
+  one_stands P le f (e ∷ es) h = f e es h
+
+  pub two_stand : (P : List Expr → Type 0) → 2 ≤ length ss → ((e f : Expr) (es : List Expr) → Hold ps ts qs (f ∷ e ∷ es) → P (f ∷ e ∷ es))
+      → (es : List Expr) → Hold ps ts qs es → P es
+  two_stand P le g [] h = absurd (omega (arith, ap length same, ap length h.parts))
+  two_stand P le g (e ∷ []) h = absurd (omega (arith, ap length same, ap length h.parts))
+  two_stand P le g (f ∷ e ∷ es) h = g e f es h
+
+  -- so the expressions that stand afterwards are found too
+  pub one_held : (ns : List Point) (us : List ℕ) (rs : List Part) (f : Expr → Expr) → ∥ ((es : List Expr) × Hold ps ts qs es) ∥₁ → 1 ≤ length ss
+      → ((e : Expr) (es : List Expr) → Hold ps ts qs (e ∷ es) → Hold ns us rs (f e ∷ es)) → ∥ ((es : List Expr) × Hold ns us rs es) ∥₁
+  one_held ns us rs f held le g =
+      ∥∥₁_map held (λ w. one_stands (λ _. (fs : List Expr) × Hold ns us rs fs) le (λ e es h. (f e ∷ es, g e es h)) w.0 w.1)
+
+  pub two_held : (ns : List Point) (us : List ℕ) (rs : List Part) (f : Expr → Expr → Expr) → ∥ ((es : List Expr) × Hold ps ts qs es) ∥₁ → 2 ≤ length ss
+      → ((d e : Expr) (es : List Expr) → Hold ps ts qs (e ∷ d ∷ es) → Hold ns us rs (f d e ∷ es)) → ∥ ((es : List Expr) × Hold ns us rs es) ∥₁
+  two_held ns us rs f held le g =
+      ∥∥₁_map held (λ w. two_stand (λ _. (fs : List Expr) × Hold ns us rs fs) le (λ d e es h. (f d e ∷ es, g d e es h)) w.0 w.1)
+
+  -- the parts lie one after the other within the points
+  pub newest_within : ∥ ((es : List Expr) × Hold ps ts qs es) ∥₁ → 1 ≤ length ss → (newest ss).start ≤ length ps
+  newest_within held le = ∥∥₁_elim held le_prop (λ w. one_stands (λ es. (newest ss).start ≤ length ps) le go w.0 w.1)
+    where
+      go : (e : Expr) (es : List Expr) → Hold ps ts qs (e ∷ es) → (newest ss).start ≤ length ps
+      go e es h =
+          let t : (newest ss).start ≡ total es = ap (λ p. p.start) (newest_is e es h) in
+          omega (arith, t, ap length h.points, length_laid (e ∷ es))
+
+  pub prior_within : ∥ ((es : List Expr) × Hold ps ts qs es) ∥₁ → 2 ≤ length ss → (prior ss).start ≤ (newest ss).start
+  prior_within held le = ∥∥₁_elim held le_prop (λ w. two_stand (λ es. (prior ss).start ≤ (newest ss).start) le go w.0 w.1)
+    where
+      go : (e f : Expr) (es : List Expr) → Hold ps ts qs (f ∷ e ∷ es) → (prior ss).start ≤ (newest ss).start
+      go e f es h =
+          let t : (newest ss).start ≡ total es + size e = ap (λ p. p.start) (newest_is f (e ∷ es) h) in
+          let b : (prior ss).start ≡ total es = ap (λ p. p.start) (prior_is e f es h) in
+          omega (arith, t, b)
+
+-- two expressions in one: ss are the parts as they were read, mid and left what two pops leave, and rs has one part in the place of both
+module _ (ps : List Point) (ts : List ℕ) (qs ss mid left rs : List Part) (k : ℕ) (read : ss ≡ qs) (one : mid ≡ take (length qs - 1) qs)
+    (two : left ≡ take (length mid - 1) mid) (put : rs ≡ left ++ record { start = (prior ss).start; entry = k } ∷ [])
+    (e f : Expr) (es : List Expr) (h : Hold ps ts qs (f ∷ e ∷ es)) where
+  is_older : prior ss ≡ spot e es
+  is_older = prior_is ps ts qs ss read e f es h
+
+  is_later : newest ss ≡ spot f (e ∷ es)
+  is_later = newest_is ps ts qs ss read f (e ∷ es) h
+
+  rest : left ≡ parts es
+  rest = popped mid left (parts es) (spot e es) (popped qs mid (parts (e ∷ es)) (spot f (e ∷ es)) h.parts one) two
+
+  -- ys are the points of the older one with its follower put in
+  joined_points : (ds ys : List Point) → ds ≡ ps → ys ≡ map (fill (newest ss).entry) (take ((newest ss).start - (prior ss).start) (drop (prior ss).start ds))
+      → refill (length ps) ps (put_mid (prior ss).start ((newest ss).start - (prior ss).start) ds ys) ≡ laid (seq e f ∷ es)
+  joined_points ds ys same hy =
       let b = total es in
       let t = length (bytes es) in
       let m = table e b open_end t in
       let q = table f (b + size e) open_end (length (bytes es ++ texts e)) in
-      let o : older.start ≡ b = ap (λ p. p.start) is_older in
-      let l : later.start ≡ b + size e = ap (λ p. p.start) is_later in
-      let kf : later.entry ≡ entry f (b + size e) open_end = ap (λ p. p.entry) is_later in
-      take_mid d.points d.count (fill later.entry) (laid es) m q ys older.start (later.start - older.start)
-      h.points long (o ∙ sym (length_laid es)) (omega (arith, o, l, length_table e b open_end t)) hy
-      ∙ ap (λ x. (laid es ++ x) ++ q) (fill_table e b open_end later.entry t (omega (arith, h.few)))
+      let o : (prior ss).start ≡ b = ap (λ p. p.start) is_older in
+      let l : (newest ss).start ≡ b + size e = ap (λ p. p.start) is_later in
+      let kf : (newest ss).entry ≡ entry f (b + size e) open_end = ap (λ p. p.entry) is_later in
+      mapped_part (fill (newest ss).entry) ps ds (laid es) m q ys (prior ss).start ((newest ss).start - (prior ss).start)
+      same h.points (o ∙ sym (length_laid es)) (omega (arith, o, l, length_table e b open_end t)) hy
+      ∙ ap (λ x. (laid es ++ x) ++ q) (fill_table e b open_end (newest ss).entry t (omega (arith, h.few)))
       ∙ ap (λ x. (laid es ++ table e b x t) ++ q) kf
       ∙ ap (λ x. (laid es ++ table e b (entry f (b + size e) open_end) t) ++ table f (b + size e) open_end x) (length-append (bytes es) (texts e))
       ∙ append_assoc (laid es) (table e b (entry f (b + size e) open_end) t) (table f (b + size e) open_end (t + length (texts e)))
 
-  pub joined_entry : k ≡ known later.entry older.entry → k ≡ entry (seq e f) (total es) open_end
+  joined_entry : k ≡ known (newest ss).entry (prior ss).entry → k ≡ entry (seq e f) (total es) open_end
   joined_entry hk =
-      hk ∙ ap (known later.entry) (ap (λ p. p.entry) is_older)
-      ∙ known_entry e (total es) open_end later.entry (omega (arith, h.few))
+      hk ∙ ap (known (newest ss).entry) (ap (λ p. p.entry) is_older)
+      ∙ known_entry e (total es) open_end (newest ss).entry (omega (arith, h.few))
       ∙ ap (entry e (total es)) (ap (λ p. p.entry) is_later)
 
-  pub two_parts : (z : Part) → take (d.height - 1) (set d.parts (d.height - 2) z) ≡ parts es ++ z ∷ []
-  two_parts z =
-      take_set_at d.parts d.height (parts es) (spot f (e ∷ es) ∷ []) (spot e es) z (d.height - 2) (d.height - 1)
-      (h.parts ∙ append_assoc (parts es) (spot e es ∷ []) (spot f (e ∷ es) ∷ []))
-      (omega (arith, h.height, length_parts es)) (omega (arith, h.height))
-
-  pub joined : (ys : List Point) → ys ≡ map (fill later.entry) (take (later.start - older.start) (drop older.start d.points))
-      → k ≡ known later.entry older.entry
-      → Holds (record {
-        points = put_mid older.start (later.start - older.start) d.points ys;
-        count = d.count;
-        text = d.text;
-        used = d.used;
-        parts = set d.parts (d.height - 2) (record { start = older.start; entry = k });
-        height = d.height - 1;
-      })
-      (seq e f ∷ es)
-  joined ys hy hk =
+  -- one expression g in the place of both
+  one_of_two : (g : Expr) (ns : List Point) → ns ≡ laid (g ∷ es) → k ≡ entry g (total es) open_end → total (g ∷ es) ≤ most_points
+      → texts g ≡ texts e ++ texts f → standing g ≡ max (standing e) (suc (standing f)) → Hold ns ts rs (g ∷ es)
+  one_of_two g ns hp hk few same high =
+      let text : bytes (f ∷ e ∷ es) ≡ bytes (g ∷ es) = append_assoc (bytes es) (texts e) (texts f) ∙ ap (λ l. bytes es ++ l) (sym same) in
       record {
-        points = joined_points ys hy;
-        count = omega (arith, h.count);
-        few = omega (arith, h.few);
-        text = h.text ∙ append_assoc (bytes es) (texts e) (texts f);
-        used = h.used ∙ ap length (append_assoc (bytes es) (texts e) (texts f));
-        little = omega (arith, h.little, ap length (append_assoc (bytes es) (texts e) (texts f)));
-        parts = two_parts (record { start = older.start; entry = k })
+        points = hp;
+        few = few;
+        text = h.text ∙ text;
+        little = omega (arith, h.little, ap length text);
+        parts = put ∙ ap (λ l. l ++ record { start = (prior ss).start; entry = k } ∷ []) rest
             ∙ ap (λ i. parts es ++ record { start = i; entry = k } ∷ []) (ap (λ p. p.start) is_older)
-            ∙ ap (λ i. parts es ++ record { start = total es; entry = i } ∷ []) (joined_entry hk);
-        height = omega (arith, h.height);
+            ∙ ap (λ i. parts es ++ record { start = total es; entry = i } ∷ []) hk;
         low = omega (arith, h.low);
         stood = (omega (arith, h.stood.0, h.stood.1.0), h.stood.1.1);
       }
 
-  -- a choice
-  pub chosen : d.count < most_points → d.count < length d.points
-      → Holds (record {
-        points = set d.points d.count (Choice older.entry later.entry);
-        count = d.count + 1;
-        text = d.text;
-        used = d.used;
-        parts = set d.parts (d.height - 2) (record { start = older.start; entry = d.count });
-        height = d.height - 1;
-      })
-      (alt e f ∷ es)
-  chosen few room =
+  pub joined : (ds ys : List Point) → ds ≡ ps → ys ≡ map (fill (newest ss).entry) (take ((newest ss).start - (prior ss).start) (drop (prior ss).start ds))
+      → k ≡ known (newest ss).entry (prior ss).entry
+      → Hold (refill (length ps) ps (put_mid (prior ss).start ((newest ss).start - (prior ss).start) ds ys)) ts rs (seq e f ∷ es)
+  joined ds ys same hy hk =
+      one_of_two (seq e f) (refill (length ps) ps (put_mid (prior ss).start ((newest ss).start - (prior ss).start) ds ys))
+      (joined_points ds ys same hy) (joined_entry hk) (omega (arith, h.few)) refl refl
+
+  pub chosen : (ns : List Point) → ns ≡ ps ++ Choice (prior ss).entry (newest ss).entry ∷ [] → length ps < most_points → k ≡ length ps
+      → Hold ns ts rs (alt e f ∷ es)
+  chosen ns hp few hk =
       let b = total es in
       let t = length (bytes es) in
       let m = table e b open_end t in
       let q = table f (b + size e) open_end (length (bytes es ++ texts e)) in
-      let ke : older.entry ≡ entry e b open_end = ap (λ p. p.entry) is_older in
-      let kf : later.entry ≡ entry f (b + size e) open_end = ap (λ p. p.entry) is_later in
-      let c : d.count ≡ b + (size e + size f) = omega (arith, h.count) in
-      record {
-        points = take_more_set d.points d.count (Choice older.entry later.entry) room
-            ∙ ap (λ l. l ++ Choice older.entry later.entry ∷ []) h.points
-            ∙ ap (λ x. ((laid es ++ m) ++ q) ++ Choice x later.entry ∷ []) ke
-            ∙ ap (λ x. ((laid es ++ m) ++ q) ++ Choice (entry e b open_end) x ∷ []) kf
-            ∙ ap (λ x. ((laid es ++ m) ++ table f (b + size e) open_end x) ++ Choice (entry e b open_end) (entry f (b + size e) open_end) ∷ []) (length-append (bytes es) (texts e))
-            ∙ ap (λ l. l ++ Choice (entry e b open_end) (entry f (b + size e) open_end) ∷ []) (append_assoc (laid es) m (table f (b + size e) open_end (t + length (texts e))))
-            ∙ append_assoc (laid es) (m ++ table f (b + size e) open_end (t + length (texts e))) (Choice (entry e b open_end) (entry f (b + size e) open_end) ∷ []);
-        count = omega (arith, h.count);
-        few = omega (arith, h.count);
-        text = h.text ∙ append_assoc (bytes es) (texts e) (texts f);
-        used = h.used ∙ ap length (append_assoc (bytes es) (texts e) (texts f));
-        little = omega (arith, h.little, ap length (append_assoc (bytes es) (texts e) (texts f)));
-        parts = two_parts (record { start = older.start; entry = d.count })
-            ∙ ap (λ i. parts es ++ record { start = i; entry = d.count } ∷ []) (ap (λ p. p.start) is_older)
-            ∙ ap (λ i. parts es ++ record { start = total es; entry = i } ∷ []) c;
-        height = omega (arith, h.height);
-        low = omega (arith, h.low);
-        stood = (omega (arith, h.stood.0, h.stood.1.0), h.stood.1.1);
-      }
+      let c : length ps ≡ b + (size e + size f) = omega (arith, ap length h.points, length_laid (f ∷ e ∷ es)) in
+      let last : Choice (prior ss).entry (newest ss).entry ≡ Choice (entry e b open_end) (entry f (b + size e) open_end) =
+      ap (λ x. Choice x (newest ss).entry) (ap (λ p. p.entry) is_older) ∙ ap (Choice (entry e b open_end)) (ap (λ p. p.entry) is_later) in
+      one_of_two (alt e f) ns
+      (hp ∙ ap (λ l. l ++ Choice (prior ss).entry (newest ss).entry ∷ []) h.points
+      ∙ ap (λ x. ((laid es ++ m) ++ q) ++ x ∷ []) last
+      ∙ ap (λ x. ((laid es ++ m) ++ table f (b + size e) open_end x) ++ Choice (entry e b open_end) (entry f (b + size e) open_end) ∷ []) (length-append (bytes es) (texts e))
+      ∙ ap (λ l. l ++ Choice (entry e b open_end) (entry f (b + size e) open_end) ∷ []) (append_assoc (laid es) m (table f (b + size e) open_end (t + length (texts e))))
+      ∙ append_assoc (laid es) (m ++ table f (b + size e) open_end (t + length (texts e))) (Choice (entry e b open_end) (entry f (b + size e) open_end) ∷ []))
+      (hk ∙ c) (omega (arith, c)) refl refl
 
--- a star
-module _ (d : Draft) (e : Expr) (es : List Expr) (h : Holds d (e ∷ es)) (last : Part) (is_last : last ≡ spot e es)
-    (k : ℕ) (long : d.count ≤ length d.points) (ys : List Point)
-    (hy : ys ≡ map (fill d.count) (take (d.count - last.start) (drop last.start d.points))) where
-  looped_points : take d.count (put_mid last.start (d.count - last.start) d.points ys)
-      ≡ laid es ++ table e (total es) d.count (length (bytes es))
-  looped_points =
-      let b = total es in
-      let t = length (bytes es) in
-      let m = table e b open_end t in
-      let o : last.start ≡ b = ap (λ p. p.start) is_last in
-      take_mid d.points d.count (fill d.count) (laid es) m [] ys last.start (d.count - last.start)
-      (h.points ∙ sym (append-nil (laid es ++ m))) long (o ∙ sym (length_laid es)) (omega (arith, o, h.count, length_table e b open_end t)) hy
-      ∙ append-nil (laid es ++ map (fill d.count) m)
-      ∙ ap (λ l. laid es ++ l) (fill_table e b open_end d.count t (omega (arith, h.few)))
-
-  pub looped : d.count < most_points → d.count < length (put_mid last.start (d.count - last.start) d.points ys)
-      → k ≡ known d.count last.entry
-      → Holds (record {
-        points = set (put_mid last.start (d.count - last.start) d.points ys) d.count (Star k open_end);
-        count = d.count + 1;
-        text = d.text;
-        used = d.used;
-        parts = set d.parts (d.height - 1) (record { start = last.start; entry = d.count });
-        height = d.height;
-      })
-      (star e ∷ es)
-  looped few room hk =
-      let b = total es in
-      let t = length (bytes es) in
-      let o : last.start ≡ b = ap (λ p. p.start) is_last in
-      let c : d.count ≡ b + size e = h.count in
-      let ke : k ≡ entry e b d.count =
-      hk ∙ ap (known d.count) (ap (λ p. p.entry) is_last) ∙ known_entry e b open_end d.count (omega (arith, h.few)) in
-      record {
-        points = take_more_set (put_mid last.start (d.count - last.start) d.points ys) d.count (Star k open_end) room
-            ∙ ap (λ l. l ++ Star k open_end ∷ []) looped_points
-            ∙ ap (λ x. (laid es ++ table e b d.count t) ++ Star x open_end ∷ []) ke
-            ∙ ap (λ x. (laid es ++ table e b x t) ++ Star (entry e b x) open_end ∷ []) c
-            ∙ append_assoc (laid es) (table e b (b + size e) t) (Star (entry e b (b + size e)) open_end ∷ []);
-        count = omega (arith, h.count);
-        few = omega (arith, h.count);
-        text = h.text;
-        used = h.used;
-        little = h.little;
-        parts = take_set_at d.parts d.height (parts es) [] (spot e es) (record { start = last.start; entry = d.count }) (d.height - 1) d.height
-            h.parts (omega (arith, h.height, length_parts es)) (omega (arith, h.height))
-            ∙ ap (λ i. parts es ++ record { start = i; entry = d.count } ∷ []) o
-            ∙ ap (λ i. parts es ++ record { start = total es; entry = i } ∷ []) c;
-        height = h.height;
-        low = h.low;
-        stood = (h.stood.0, h.stood.1);
-      }
-
--- the parts lie one after the other within the points
-pub last_within : (d : Draft) (x : Part) (es : List Expr) → Holds d es → 1 ≤ d.height
-    → ((get_or d.parts (d.height - 1) x).start ≤ d.count) × (d.count ≤ most_points)
-last_within d x [] h le = absurd (omega (arith, h.height))
-last_within d x (e ∷ es) h le =
-    let t : (get_or d.parts (d.height - 1) x).start ≡ total es = ap (λ p. p.start) (top d e es x h) in
-    (omega (arith, h.count), omega (arith, h.count, h.few))
-
-pub both_within : (d : Draft) (x : Part) (es : List Expr) → Holds d es → 2 ≤ d.height
-    → ((get_or d.parts (d.height - 2) x).start ≤ (get_or d.parts (d.height - 1) x).start) × ((get_or d.parts (d.height - 1) x).start ≤ most_points)
-both_within d x [] h le = absurd (omega (arith, h.height))
-both_within d x (f ∷ []) h le = absurd (omega (arith, h.height))
-both_within d x (f ∷ e ∷ es) h le =
-    let t : (get_or d.parts (d.height - 1) x).start ≡ total es + size e = ap (λ p. p.start) (top d f (e ∷ es) x h) in
-    let b : (get_or d.parts (d.height - 2) x).start ≡ total es = ap (λ p. p.start) (below d e f es x h) in
-    (omega (arith, t, b), omega (arith, t, h.few))
-
--- the pattern of the one expression that stands
-pub finished : (d : Draft) (e : Expr) (x : Part) → Holds d (e ∷ []) → d.count ≤ length d.points → (ys : List Point) (at : ℕ)
-    → ys ≡ map (fill d.count) (take (d.count - 0) (drop 0 d.points))
-    → at ≡ known d.count (get_or d.parts 0 x).entry
-    → ComesFrom (take d.count (put_mid 0 (d.count - 0) d.points ys)) (take d.used d.text) at e
-finished d e x h long ys at hy ha =
-    let c : d.count ≡ size e = omega (arith, h.count) in
-    let p : get_or d.parts 0 x ≡ spot e [] = get_or_last d.parts d.height [] (spot e []) x 0 h.parts refl in
+-- a star: ss are the parts as they were read, left what a pop leaves, ys the points with the star as their follower
+pub looped : (ps ns ds ys : List Point) (ts : List ℕ) (qs ss left rs : List Part) (n k : ℕ) → n ≡ length ps → ss ≡ qs → left ≡ take (length qs - 1) qs
+    → ds ≡ ps → ys ≡ map (fill n) (take (length ds - (newest ss).start) (drop (newest ss).start ds))
+    → ns ≡ refill (length ps) ps (put_mid (newest ss).start (length ds - (newest ss).start) ds ys) ++ Star k open_end ∷ []
+    → k ≡ known n (newest ss).entry → n < most_points
+    → rs ≡ left ++ record { start = (newest ss).start; entry = n } ∷ []
+    → (e : Expr) (es : List Expr) → Hold ps ts qs (e ∷ es) → Hold ns ts rs (star e ∷ es)
+looped ps ns ds ys ts qs ss left rs n k hn read one same hy hp hk few put e es h =
+    let last = newest ss in
+    let is_last : last ≡ spot e es = newest_is ps ts qs ss read e es h in
+    let rest : left ≡ parts es = popped qs left (parts es) (spot e es) h.parts one in
+    let b = total es in
+    let t = length (bytes es) in
+    let m = table e b open_end t in
+    let o : last.start ≡ b = ap (λ p. p.start) is_last in
+    let c : n ≡ b + size e = hn ∙ ap length h.points ∙ length_laid (e ∷ es) in
+    let whole : length ds ≡ n = ap length same ∙ sym hn in
+    let ke : k ≡ entry e b n = hk ∙ ap (known n) (ap (λ p. p.entry) is_last) ∙ known_entry e b open_end n (omega (arith, h.few)) in
     record {
-      points = take_mid d.points d.count (fill d.count) [] (table e 0 open_end 0) [] ys 0 (d.count - 0)
-          (h.points ∙ sym (append-nil (table e 0 open_end 0))) long refl (omega (arith, c, length_table e 0 open_end 0)) hy
-          ∙ append-nil (map (fill d.count) (table e 0 open_end 0))
-          ∙ fill_table e 0 open_end d.count 0 (omega (arith, h.few))
-          ∙ ap (λ k. table e 0 k 0) c;
+      points = hp
+          ∙ ap (λ l. l ++ Star k open_end ∷ [])
+          (mapped_part (fill n) ps ds (laid es) m [] ys last.start (length ds - last.start) same (h.points ∙ sym (append-nil (laid es ++ m)))
+          (o ∙ sym (length_laid es)) (omega (arith, o, c, whole, length_table e b open_end t)) hy
+          ∙ append-nil (laid es ++ map (fill n) m)
+          ∙ ap (λ l. laid es ++ l) (fill_table e b open_end n t (omega (arith, h.few))))
+          ∙ ap (λ x. (laid es ++ table e b n t) ++ Star x open_end ∷ []) ke
+          ∙ ap (λ x. (laid es ++ table e b x t) ++ Star (entry e b x) open_end ∷ []) c
+          ∙ append_assoc (laid es) (table e b (b + size e) t) (Star (entry e b (b + size e)) open_end ∷ []);
+      few = omega (arith, c);
       text = h.text;
-      entry = ha ∙ ap (λ q. known d.count q.entry) p ∙ known_entry e 0 open_end d.count (omega (arith, h.few)) ∙ ap (entry e 0) c;
+      little = h.little;
+      parts = put ∙ ap (λ l. l ++ record { start = last.start; entry = n } ∷ []) rest
+          ∙ ap (λ i. parts es ++ record { start = i; entry = n } ∷ []) o
+          ∙ ap (λ i. parts es ++ record { start = total es; entry = i } ∷ []) c;
+      low = h.low;
+      stood = (h.stood.0, h.stood.1);
+    }
+
+-- the pattern of the one expression that stands: x is its part, fs are the points with the end point as their follower
+pub finished : (ps fs ns : List Point) (ts us : List ℕ) (qs ss : List Part) (n at : ℕ) (e : Expr) → Hold ps ts qs (e ∷ []) → ss ≡ qs
+    → n ≡ length ps → fs ≡ map (fill n) ps → ns ≡ fs → us ≡ ts → at ≡ known n (get_or ss 0 (record { start = 0; entry = 0 })).entry → ComesFrom ns us at e
+finished ps fs ns ts us qs ss n at e h same hn hf hp hu ha =
+    let c : n ≡ size e = hn ∙ ap length h.points ∙ length_table e 0 open_end 0 in
+    let p : get_or ss 0 (record { start = 0; entry = 0 }) ≡ spot e [] = ap (λ l. get_or l 0 (record { start = 0; entry = 0 })) (same ∙ h.parts) in
+    record {
+      points = hp ∙ hf ∙ ap (map (fill n)) h.points ∙ fill_table e 0 open_end n 0 (omega (arith, h.few)) ∙ ap (λ k. table e 0 k 0) c;
+      text = hu ∙ h.text;
+      entry = ha ∙ ap (λ q. known n q.entry) p ∙ known_entry e 0 open_end n (omega (arith, h.few)) ∙ ap (entry e 0) c;
       few = omega (arith, h.few);
       little = h.little;
       low = omega (arith, h.stood.0);

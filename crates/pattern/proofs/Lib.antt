@@ -1,5 +1,4 @@
 pub mod Drafting
-pub mod Endings
 pub mod Fronts
 pub mod Links
 pub mod Numerals

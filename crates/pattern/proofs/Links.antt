@@ -1,8 +1,9 @@
 -- What every point of a pattern keeps: its links lead to points or to the end, a text goes on to a larger number, and its bytes lie within the text bytes.
-use Rattle.std.proofs.Common.{◌≡◌, ℕ, zero, suc, ◌+◌, ◌-◌, ◌<◌, ◌≤◌, List, [], ◌∷◌, ◌++◌, length, get_or, take, drop, Some, None, sym, refl, ap, ◌∙◌, subst, arith, length-append}
+use Rattle.std.proofs.Common.{◌≡◌, ℕ, zero, suc, ◌+◌, ◌-◌, ◌<◌, ◌≤◌, List, [], ◌∷◌, ◌++◌, length, get_or, take, drop, Some, None, sym, inl, inr, ap, ◌∙◌, subst, arith, length-append}
 use mathlib.Core.Logic.{∥∥₁_elim}
 use mathlib.Core.HLevel.{×_prop}
 use native.Mathlib.Bridge.{le_prop}
+use Rattle.std.proofs.lemmas.Bool.{cases_lt}
 use Rattle.std.proofs.lemmas.List.{get_or-take, length-take-le, take-take}
 use Rattle.std.proofs.lemmas.Slice.{between_is}
 use Rattle.std.proofs.lemmas.Option.{slice_get-get_or, slice_get_past}
@@ -12,7 +13,7 @@ use Rattle.pattern.specs.declared.point.Point.TheVariants.{Read, Text, Choice, S
 use Rattle.pattern.specs.declared.pattern.Pattern.{Pattern}
 use Rattle.pattern.specs.Expressions.{Expr, empty, read, text, seq, alt, star, size, texts}
 use Rattle.pattern.specs.Points.{entry, table}
-use Rattle.pattern.specs.Patterns.{points_of, text_of, own_bytes, bytes_at, Leads, LeadsIf}
+use Rattle.pattern.specs.Patterns.{points_of, text_of, bytes_at, Leads, LeadsIf}
 use Rattle.pattern.proofs.Tables.{length_table}
 
 -- P holds of each point of a list, by its number, the first being i
@@ -93,6 +94,14 @@ table_sound (star e) b k t m u p q r =
     (table_sound e b s t m u (omega arith) (omega arith) r)
     ((entry_le e b s m (omega arith) (omega arith), p), tt)
 
+-- a part of the bytes in use is the same part of all
+pub part_of : (xs : List ℕ) (u start len : ℕ) → start + len ≤ u → take (start + len - start) (drop start xs) ≡ take len (drop start (take u xs))
+part_of xs u start len h =
+    between_is xs start (start + len)
+    ∙ ap (drop start) (sym (take-take (start + len) u xs h))
+    ∙ sym (between_is (take u xs) start (start + len))
+    ∙ ap (λ n. take n (drop start (take u xs))) (omega arith)
+
 module _ (p : Pattern) where
   pub count_points : length (points_of p) ≡ p.count
   count_points = length-take-le p.count p.points p.inside
@@ -148,19 +157,18 @@ module _ (p : Pattern) where
       go (Choice a b) h = h
       go (Star a b) h = h
 
-  pub bytes_of : (i : ℕ) (d : Point) → i < p.count → own_bytes (text_of p) (get_or p.points i d) ≡ bytes_at (text_of p) (slice_get (points_of p) i)
-  bytes_of i d l = ap (bytes_at (text_of p)) (point_at i d l)
+  -- the bytes of a text lie within the text bytes in use
+  pub text_inside : (i start len to : ℕ) → slice_get (points_of p) i ≡ Some (Text start len to) → start + len ≤ p.used
+  text_inside i start len to e =
+      elim (cases_lt i p.count) [
+        | inl l ↦
+            let same = point_at i (Choice 0 0) l ∙ e in
+            let is : get_or p.points i (Choice 0 0) ≡ Text start len to = cc in
+            text_within i (Choice 0 0) start len to l is
+        | inr l ↦ absurd (let same = none_at i l ∙ e in let z : ◌≡◌ {A = ℕ} 0 1 = cc in omega arith)
+      ]
 
-pub no_bytes : (ts : List ℕ) (p : Point) → ((start len to : ℕ) → p ≡ Text start len to → ⊥) → [] ≡ own_bytes ts p
-no_bytes ts (Read keep class to) h = refl
-no_bytes ts (Text start len to) h = absurd (h start len to refl)
-no_bytes ts (Choice a b) h = refl
-no_bytes ts (Star a b) h = refl
-
--- a part of the bytes in use is the same part of all
-pub part_of : (xs : List ℕ) (u start len : ℕ) → start + len ≤ u → take (start + len - start) (drop start xs) ≡ take len (drop start (take u xs))
-part_of xs u start len h =
-    between_is xs start (start + len)
-    ∙ ap (drop start) (sym (take-take (start + len) u xs h))
-    ∙ sym (between_is (take u xs) start (start + len))
-    ∙ ap (λ n. take n (drop start (take u xs))) (omega arith)
+  pub text_bytes : (i start len to : ℕ) → slice_get (points_of p) i ≡ Some (Text start len to)
+      → take (start + len - start) (drop start p.text) ≡ bytes_at (text_of p) (slice_get (points_of p) i)
+  text_bytes i start len to e =
+      part_of p.text p.used start len (text_inside i start len to e) ∙ ap (bytes_at (text_of p)) (sym e)

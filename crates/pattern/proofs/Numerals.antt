@@ -1,33 +1,10 @@
 -- What `number` is at lists whose first bytes are known.
-use Rattle.std.proofs.Common.{◌≡◌, ℕ, zero, suc, ◌+◌, ◌*◌, ◌%◌, ◌<◌, ◌≤◌, Bool, true, false, cond, ltb, leb, List, [], ◌∷◌, length, get_or, drop, Some, None, Option, refl, ap, subst, arith, le-ltb, lt-ltb, le-leb}
-use borrow.Author.Tests.{lt-leb}
-use Rattle.std.proofs.lemmas.List.{drop_more, drop_all, length-drop}
+use Rattle.std.proofs.Common.{◌≡◌, ℕ, zero, suc, ◌+◌, ◌*◌, ◌%◌, ◌≤◌, Bool, true, false, cond, ltb, leb, List, [], ◌∷◌, length, Some, None, Option, refl, ap, subst, arith, le-leb}
 use Rattle.pattern.specs.Limits.{largest_number}
-use Rattle.pattern.specs.Numbers.{Long, under, groups, small, number, found}
-use Rattle.pattern.specs.declared.number.Number.{Number}
-
--- the groups at an offset: no byte there, a last group, or one that another follows
-module _ (xs : List ℕ) (at : ℕ) where
-  pub groups_none : (n : ℕ) → length xs ≤ at → groups (suc n) (drop at xs) ≡ None
-  groups_none n h = rw (drop_all at xs h) refl
-
-  pub groups_last : (n a : ℕ) → at < length xs → a ≡ get_or xs at 0 → a < 128
-      → groups (suc n) (drop at xs) ≡ Some (record { value = a; bytes = 1 })
-  groups_last n a l e h =
-      rw (drop_more xs at 0 l, ← e)
-      (ap (λ t. cond t (Some (record { value = a; bytes = 1 })) (under a (groups n (drop (at + 1) xs)))) (lt-ltb a 128 h))
-
-  pub groups_more : (n a next : ℕ) → at < length xs → a ≡ get_or xs at 0 → 128 ≤ a → at + 1 ≡ next
-      → groups (suc n) (drop at xs) ≡ under a (groups n (drop next xs))
-  groups_more n a next l e h to =
-      rw (drop_more xs at 0 l, ← e, ← to)
-      (ap (λ t. cond t (Some (record { value = a; bytes = 1 })) (under a (groups n (drop (at + 1) xs)))) (le-ltb a 128 h))
+use Rattle.pattern.specs.Numbers.{Long, under, groups, small, number}
 
 pub small_in : (r : Long) → r.value ≤ largest_number → small (Some r) ≡ Some r
 small_in r h = ap (λ t. cond t (Some r) None) (le-leb r.value largest_number h)
-
-pub small_out : (r : Long) → largest_number < r.value → small (Some r) ≡ None
-small_out r h = ap (λ t. cond t (Some r) None) (lt-leb r.value largest_number h)
 
 -- a number has at least one byte, and no more than there are
 groups_inside : (n : ℕ) (bs : List ℕ) (r : Long) → groups n bs ≡ Some r → (1 ≤ r.bytes) × (r.bytes ≤ length bs)
@@ -54,36 +31,3 @@ number_inside bs r e = go (groups 3 bs) (groups_inside 3 bs) e
         pick : (t : Bool) → cond t (Some q) None ≡ Some r → (1 ≤ r.bytes) × (r.bytes ≤ length bs)
         pick true g = let s : q ≡ r = cc in subst (λ x. (1 ≤ x.bytes) × (x.bytes ≤ length bs)) s (ih q refl)
         pick false g = absurd (let z : ◌≡◌ {A = ℕ} 0 1 = cc in omega arith)
-
--- what was found at an offset is a number there
-pub record At (xs : List ℕ) (at : ℕ) (x : Number) : Type 0 where
-  pub long : Long
-  pub is : number (drop at xs) ≡ Some long
-  pub value : x.value ≡ long.value
-  pub next : x.next ≡ at + long.bytes
-  pub some : 1 ≤ long.bytes
-  pub inside : x.next ≤ length xs
-
-pub found_some : (xs : List ℕ) (at : ℕ) (x : Number) → at ≤ length xs → Some x ≡ found at (number (drop at xs)) → At xs at x
-found_some xs at x le e = go (number (drop at xs)) refl e
-  where
-    go : (o : Option Long) → number (drop at xs) ≡ o → Some x ≡ found at o → At xs at x
-    go None is f = absurd (let z : ◌≡◌ {A = ℕ} 0 1 = cc in omega arith)
-    go (Some r) is f =
-        let s : x ≡ record { value = r.value; next = at + r.bytes } = cc in
-        let i = number_inside (drop at xs) r is in
-        record {
-          long = r;
-          is = is;
-          value = ap (λ p. p.value) s;
-          next = ap (λ p. p.next) s;
-          some = i.0;
-          inside = omega (arith, i.1, ap (λ p. p.next) s, length-drop at xs);
-        }
-
-pub found_none : (xs : List ℕ) (at : ℕ) → None ≡ found at (number (drop at xs)) → number (drop at xs) ≡ None
-found_none xs at e = go (number (drop at xs)) e
-  where
-    go : (o : Option Long) → None ≡ found at o → o ≡ None
-    go None f = refl
-    go (Some r) f = absurd (let z : ◌≡◌ {A = ℕ} 0 1 = cc in omega arith)

@@ -1,76 +1,142 @@
 -- An operation of a file by what was read of it.
-use Rattle.std.proofs.Common.{◌≡◌, ℕ, zero, suc, pred, ◌+◌, ◌-◌, ◌<◌, ◌≤◌, Bool, true, false, cond, leb, List, [], ◌∷◌, length, take, drop, is_ok, Some, None, Ok, Err, Option, Result, sym, refl, ap, ◌∙◌, subst, arith, le-leb, leb-true}
-use borrow.Author.Tests.{lt-leb}
-use Rattle.std.proofs.lemmas.List.{drop-drop, drop_more, length-drop}
+use Rattle.std.proofs.Common.{◌≡◌, ℕ, zero, suc, pred, ◌+◌, ◌-◌, ◌<◌, ◌≤◌, Bool, true, false, cond, leb, List, [], ◌∷◌, length, take, drop, Some, None, Ok, Err, Option, Result, sym, refl, ap, ◌∙◌, subst, arith, le-leb, leb-true}
+use Rattle.std.proofs.lemmas.List.{drop-drop, length-drop}
 use Rattle.fault.specs.declared.cause.Cause.TheVariants.{Malformed, PatternLimit}
 use Rattle.fault.specs.declared.refusal.Fault.{Fault}
-use Rattle.pattern.specs.declared.number.Number.{Number}
 use Rattle.pattern.specs.declared.operation.Operation.{Operation}
 use Rattle.pattern.specs.declared.operation.Operation.TheVariants.{Empty, Drops, Keeps, Text, Sequence, Choice, Star}
-use Rattle.pattern.specs.declared.pattern.draft.Draft.{Draft}
+use Rattle.pattern.specs.declared.pattern.load.Loader.{Loader}
 use Rattle.pattern.specs.Numbers.{Long, number}
 use Rattle.pattern.specs.Expressions.{Expr, empty, read, text, seq, alt, star}
 use Rattle.pattern.specs.Operations.{operation_of}
 use Rattle.pattern.specs.Files.{within, Effect, refused, leaves, limited, on_one, on_two, given, known_as, reading, texting, operate, effect, final, onward, operations}
-use Rattle.pattern.specs.Drafts.{Holds, Done, Meets}
-use Rattle.pattern.proofs.Numerals.{At, number_inside}
+use Rattle.pattern.specs.Drafts.{Holds, Done}
+use Rattle.pattern.specs.Loading.{Taken, Works}
+use Rattle.pattern.proofs.Numerals.{number_inside}
 
--- the operation at an offset, once its number is read and known
-pub effect_at : (xs : List ℕ) (at : ℕ) (x : Number) → At xs at x → (es : List Expr)
-    → effect (drop at xs) es ≡ known_as (operation_of x.value) (λ o. operate o (x.next - at) (drop x.next xs) es)
-effect_at xs at x a es =
-    let r = a.long in
-    let b : r.bytes ≡ x.next - at = omega (arith, a.next) in
-    let act : ℕ → ℕ → List ℕ → Effect = λ v n bs. known_as (operation_of v) (λ o. operate o n bs es) in
-    ap (λ o. given o (λ q. act q.value q.bytes (drop q.bytes (drop at xs)))) a.is
-    ∙ ap (λ v. act v r.bytes (drop r.bytes (drop at xs))) (sym a.value)
-    ∙ ap (act x.value r.bytes) (drop-drop r.bytes at xs ∙ ap (λ i. drop i xs) (sym a.next))
-    ∙ ap (λ i. act x.value i (drop x.next xs)) b
+-- the number v was taken off the unread bytes of a loader
+pub record Took (old new : Loader) (v : ℕ) : Type 0 where
+  pub long : Long
+  pub is : number old.rest.now ≡ Some long
+  pub value : v ≡ long.value
+  pub draft : new.draft ≡ old.draft
+  pub rest : new.rest.now ≡ drop long.bytes old.rest.now
+  pub place : new.place ≡ old.place
 
--- what meets the operation by its parts meets the operation at the offset
-pub meets_at : (xs : List ℕ) (at : ℕ) (x : Number) → At xs at x → (o : Operation) → operation_of x.value ≡ Some o → (es : List Expr)
-    → (r : Result ℕ Fault) (d : Draft) → Meets (operate o (x.next - at) (drop x.next xs) es) at r d → Meets (effect (drop at xs) es) at r d
-meets_at xs at x a o e es r d =
-    subst (λ t. Meets t at r d) (sym (effect_at xs at x a es ∙ ap (λ k. known_as k (λ o. operate o (x.next - at) (drop x.next xs) es)) e))
-
-module _ (xs : List ℕ) (at next : ℕ) (x : Number) (a : At xs next x) (es : List Expr) where
-  given_at : given (number (drop next xs)) (texting (next - at) (drop next xs) es) ≡ texting (next - at) (drop next xs) es a.long
-  given_at = ap (λ o. given o (texting (next - at) (drop next xs) es)) a.is
-
-  pub text_cut : length xs - x.next < x.value
-      → given (number (drop next xs)) (texting (next - at) (drop next xs) es) ≡ refused Malformed
-  text_cut h =
-      let r = a.long in
-      given_at
-      ∙ ap (λ t. cond t (limited (next - at + r.bytes + r.value) (text (take r.value (drop r.bytes (drop next xs))) ∷ es)) (refused Malformed))
-      (lt-leb r.value (length (drop next xs) - r.bytes) (omega (arith, a.next, a.value, length-drop next xs)))
-
-  pub text_whole : (n : ℕ) → n ≡ x.value → at ≤ next → n ≤ length xs - x.next
-      → given (number (drop next xs)) (texting (next - at) (drop next xs) es)
-      ≡ limited (x.next + n - at) (text (take (x.next + n - x.next) (drop x.next xs)) ∷ es)
-  text_whole n same le h =
-      let r = a.long in
-      let v : r.value ≡ x.next + n - x.next = omega (arith, a.value) in
-      given_at
-      ∙ ap (λ t. cond t (limited (next - at + r.bytes + r.value) (text (take r.value (drop r.bytes (drop next xs))) ∷ es)) (refused Malformed))
-      (le-leb r.value (length (drop next xs) - r.bytes) (omega (arith, a.next, a.value, length-drop next xs)))
-      ∙ ap (λ m. limited m (text (take r.value (drop r.bytes (drop next xs))) ∷ es)) (omega (arith, a.next, a.value))
-      ∙ ap (λ l. limited (x.next + n - at) (text (take r.value l) ∷ es)) (drop-drop r.bytes next xs ∙ ap (λ i. drop i xs) (sym a.next))
-      ∙ ap (λ m. limited (x.next + n - at) (text (take m (drop x.next xs)) ∷ es)) v
-
-pub meets_err : {T : Type 0} (t : Effect) (at : ℕ) (r : Result T Fault) (y : Fault) (d : Draft) → r ≡ Err y → Done t at r d → Meets t at (Err y) d
-meets_err (refused c) at r y d e h = let s : y ≡ record { cause = c; place = at } = cc in ap Err s
-meets_err {T} (leaves n es) at r y d e h = absurd (clash (ap is_ok (sym e) ∙ h.0))
+pub took : (old new : Loader) (v : ℕ) → Taken (number old.rest.now) old new (Some v) → Took old new v
+took old new v t = go (number old.rest.now) refl t
   where
-    clash : false ≡ true → ⊥
-    clash z = let w : ◌≡◌ {A = ℕ} 0 1 = cc in omega arith
+    go : (o : Option Long) → number old.rest.now ≡ o → Taken o old new (Some v) → Took old new v
+    go None is h = absurd (let e = h.0 in let z : ◌≡◌ {A = ℕ} 0 1 = cc in omega arith)
+    go (Some x) is h =
+        let e = h.0 in
+        let same : v ≡ x.value = cc in
+        record { long = x; is = is; value = same; draft = h.1; rest = h.2; place = h.3 }
 
-pub meets_ok : {T : Type 0} (n at next : ℕ) (es : List Expr) (r : Result T Fault) (u : T) (d : Draft) → next ≡ at + n → r ≡ Ok u → Done (limited n es) at r d → Meets (limited n es) at (Ok next) d
-meets_ok {T} n at next es r u d e f h = go (within es) h
-  where
-    go : (b : Bool) → Done (cond b (leaves n es) (refused PatternLimit)) at r d → Meets (cond b (leaves n es) (refused PatternLimit)) at (Ok next) d
-    go true k = (ap Ok e, k.1)
-    go false k = absurd (let w : ◌≡◌ {A = ℕ} 0 1 = cc in omega arith)
+-- what a draft answers is what the loader does, once the bytes are read
+module _ (n k m : ℕ) (old new : Loader) (r : Result (Unit {0}) Fault) (all : n + k ≡ m) (rest : new.rest.now ≡ drop k old.rest.now) where
+  pub limited_works : (es : List Expr) → Done (limited m es) old.place r new.draft → Works n (limited m es) old new r
+  limited_works es = go (within es)
+    where
+      go : (b : Bool) → Done (cond b (leaves m es) (refused PatternLimit)) old.place r new.draft → Works n (cond b (leaves m es) (refused PatternLimit)) old new r
+      go true h = (h.0, h.1, (k, all, rest))
+      go false h = h
+
+  pub one_works : (f : Expr → Expr) (es : List Expr) → Done (on_one f m es) old.place r new.draft → Works n (on_one f m es) old new r
+  one_works f [] h = h
+  one_works f (e ∷ es) h = limited_works (f e ∷ es) h
+
+  pub two_works : (f : Expr → Expr → Expr) (es : List Expr) → Done (on_two f m es) old.place r new.draft → Works n (on_two f m es) old new r
+  two_works f [] h = h
+  two_works f (e ∷ []) h = h
+  two_works f (e ∷ d ∷ es) h = limited_works (f d e ∷ es) h
+
+-- what is done after n bytes
+pub works_after : (n : ℕ) (t : Effect) (old mid new : Loader) (r : Result (Unit {0}) Fault) → mid.rest.now ≡ drop n old.rest.now → mid.place ≡ old.place
+    → Works n t mid new r → Works 0 t old new r
+works_after n (refused c) old mid new r e p h = h ∙ ap (λ q. Err (record { cause = c; place = q })) p
+works_after n (leaves m es) old mid new r e p h = (
+  h.0,
+  h.1,
+  (m, omega arith, h.2.2 ∙ ap (drop h.2.0) e ∙ drop-drop h.2.0 n old.rest.now ∙ ap (λ i. drop i old.rest.now) h.2.1),
+)
+
+-- an operation by its number and the bytes after it
+pub operation_works : (old mid new : Loader) (v : ℕ) (a : Took old mid v) (o : Operation) (es : List Expr) (r : Result (Unit {0}) Fault)
+    → operation_of v ≡ Some o → Works 0 (operate o a.long.bytes mid.rest.now es) old new r → Works 0 (effect old.rest.now es) old new r
+operation_works old mid new v a o es r e h =
+    let x = a.long in
+    let f : Long → Effect = λ q. known_as (operation_of q.value) (λ o. operate o q.bytes (drop q.bytes old.rest.now) es) in
+    subst (λ t. Works 0 t old new r)
+    (sym (ap (λ q. given q f) a.is
+    ∙ ap (λ k. known_as k (λ o. operate o x.bytes (drop x.bytes old.rest.now) es)) (ap operation_of (sym a.value) ∙ e)
+    ∙ ap (λ bs. operate o x.bytes bs es) (sym a.rest)))
+    h
+
+-- what a loader does once the number v of an operation is taken: its draft does it, or it reads on
+module _ (old mid new : Loader) (v : ℕ) (es : List Expr) (r : Result (Unit {0}) Fault) (t : Taken (number old.rest.now) old mid (Some v)) (h : Holds old.draft es) where
+  abbrev begun : Took old mid v
+  begun = took old mid v t
+
+  abbrev taken : ℕ
+  taken = begun.long.bytes
+
+  held : Holds mid.draft es
+  held = subst (λ d. Holds d es) (sym begun.draft) h
+
+  at_place : (m : Effect) → Done m mid.place r new.draft → Done m old.place r new.draft
+  at_place m = subst (λ p. Done m p r new.draft) begun.place
+
+  pub empty_works : operation_of v ≡ Some Empty → new.rest.now ≡ mid.rest.now
+      → ((n : ℕ) (es : List Expr) → Holds mid.draft es → Done (limited n (empty ∷ es)) mid.place r new.draft) → Works 0 (effect old.rest.now es) old new r
+  empty_works e same d =
+      operation_works old mid new v begun Empty es r e
+      (limited_works 0 taken taken old new r (omega arith) (same ∙ begun.rest) (empty ∷ es) (at_place (limited taken (empty ∷ es)) (d taken es held)))
+
+  pub star_works : operation_of v ≡ Some Star → new.rest.now ≡ mid.rest.now
+      → ((n : ℕ) (es : List Expr) → Holds mid.draft es → Done (on_one star n es) mid.place r new.draft) → Works 0 (effect old.rest.now es) old new r
+  star_works e same d =
+      operation_works old mid new v begun Star es r e
+      (one_works 0 taken taken old new r (omega arith) (same ∙ begun.rest) star es (at_place (on_one star taken es) (d taken es held)))
+
+  pub sequence_works : operation_of v ≡ Some Sequence → new.rest.now ≡ mid.rest.now
+      → ((n : ℕ) (es : List Expr) → Holds mid.draft es → Done (on_two seq n es) mid.place r new.draft) → Works 0 (effect old.rest.now es) old new r
+  sequence_works e same d =
+      operation_works old mid new v begun Sequence es r e
+      (two_works 0 taken taken old new r (omega arith) (same ∙ begun.rest) seq es (at_place (on_two seq taken es) (d taken es held)))
+
+  pub choice_works : operation_of v ≡ Some Choice → new.rest.now ≡ mid.rest.now
+      → ((n : ℕ) (es : List Expr) → Holds mid.draft es → Done (on_two alt n es) mid.place r new.draft) → Works 0 (effect old.rest.now es) old new r
+  choice_works e same d =
+      operation_works old mid new v begun Choice es r e
+      (two_works 0 taken taken old new r (omega arith) (same ∙ begun.rest) alt es (at_place (on_two alt taken es) (d taken es held)))
+
+  pub read_on : (o : Operation) → operation_of v ≡ Some o
+      → ((n : ℕ) (es : List Expr) → Holds mid.draft es → Works n (operate o n mid.rest.now es) mid new r) → Works 0 (effect old.rest.now es) old new r
+  read_on o e w =
+      operation_works old mid new v begun o es r e
+      (works_after taken (operate o taken mid.rest.now es) old mid new r begun.rest begun.place (w taken es held))
+
+-- a text by its length and the bytes after it
+pub text_works : (old mid new : Loader) (v n : ℕ) (a : Took old mid v) (bytes : List ℕ) (es : List Expr) (r : Result (Unit {0}) Fault)
+    → v ≤ length mid.rest.now → bytes ≡ take v mid.rest.now → new.rest.now ≡ drop v mid.rest.now
+    → Done (limited (n + a.long.bytes + a.long.value) (text bytes ∷ es)) mid.place r new.draft
+    → Works n (given (number old.rest.now) (texting n old.rest.now es)) old new r
+text_works old mid new v n a bytes es r le eb er h =
+    let x = a.long in
+    let bs = old.rest.now in
+    let m = n + x.bytes + x.value in
+    let same : bytes ≡ take x.value (drop x.bytes bs) = eb ∙ ap (λ k. take k mid.rest.now) a.value ∙ ap (take x.value) a.rest in
+    let there : x.value ≤ length bs - x.bytes = omega (arith, le, a.value, ap length a.rest, length-drop x.bytes bs) in
+    let whole : given (number bs) (texting n bs es) ≡ limited m (text bytes ∷ es) =
+    ap (λ o. given o (texting n bs es)) a.is
+    ∙ ap (λ t. cond t (limited m (text (take x.value (drop x.bytes bs)) ∷ es)) (refused Malformed)) (le-leb x.value (length bs - x.bytes) there)
+    ∙ ap (λ ys. limited m (text ys ∷ es)) (sym same) in
+    let rest : new.rest.now ≡ drop (x.bytes + x.value) bs =
+    er ∙ ap (λ k. drop k mid.rest.now) a.value ∙ ap (drop x.value) a.rest ∙ drop-drop x.value x.bytes bs in
+    subst (λ t. Works n t old new r) (sym whole)
+    (limited_works n (x.bytes + x.value) m old new r (omega arith) rest (text bytes ∷ es)
+    (subst (λ p. Done (limited m (text bytes ∷ es)) p r new.draft) a.place h))
 
 -- an operation takes at least one byte, and no more than there are
 abbrev Fits : Effect → ℕ → Type 0
@@ -138,41 +204,35 @@ pass_over [] (suc k) place es h = absurd (omega arith)
 pass_over (b ∷ bs) zero place es h = ap (λ p. operations (b ∷ bs) 0 p es) (omega arith)
 pass_over (b ∷ bs) (suc k) place es h = pass_over bs k (suc place) es (omega arith) ∙ ap (λ p. operations (drop k bs) 0 p es) (omega arith)
 
-module _ (xs : List ℕ) (at : ℕ) (es : List Expr) (l : at < length xs) where
-  operations_at : operations (drop at xs) 0 at es ≡ onward (effect (drop at xs) es) at (λ n fs. operations (drop (at + 1) xs) (pred n) (suc at) fs)
-  operations_at =
-      let e = drop_more xs at 0 l in
-      ap (λ bs. operations bs 0 at es) e
-      ∙ ap (λ bs. onward (effect bs es) at (λ n fs. operations (drop (at + 1) xs) (pred n) (suc at) fs)) (sym e)
+-- the rest of a file, by its first operation
+first : (bs : List ℕ) (place : ℕ) (es : List Expr) → 0 < length bs
+    → operations bs 0 place es ≡ onward (effect bs es) place (λ n fs. operations (drop 1 bs) (pred n) (suc place) fs)
+first [] place es l = absurd (omega arith)
+first (b ∷ bs) place es l = refl
 
-  pub operations_refused : (f : Fault) (d : Draft) → Meets (effect (drop at xs) es) at (Err f) d → operations (drop at xs) 0 at es ≡ Err f
-  operations_refused f d m = operations_at ∙ go (effect (drop at xs) es) m
+module _ (old new : Loader) (es : List Expr) (l : 0 < length old.rest.now) where
+  pub operations_on : Works 0 (effect old.rest.now es) old new (Ok tt)
+      → (fs : List Expr) × Holds new.draft fs × (length new.rest.now < length old.rest.now)
+      × (operations new.rest.now 0 (old.place + (length old.rest.now - length new.rest.now)) fs ≡ operations old.rest.now 0 old.place es)
+  operations_on w = go (effect old.rest.now es) refl w (effect_fits old.rest.now es)
     where
-      go : (t : Effect) → Meets t at (Err f) d → onward t at (λ n fs. operations (drop (at + 1) xs) (pred n) (suc at) fs) ≡ Err f
-      go (refused c) k = let s : f ≡ record { cause = c; place = at } = cc in ap Err (sym s)
-      go (leaves n fs) k = absurd (let z = k.0 in let w : ◌≡◌ {A = ℕ} 0 1 = cc in omega arith)
-
-  pub operations_on : (next : ℕ) (d : Draft) → Meets (effect (drop at xs) es) at (Ok next) d
-      → (fs : List Expr) × Holds d fs × (at < next) × (next ≤ length xs) × (operations (drop next xs) 0 next fs ≡ operations (drop at xs) 0 at es)
-  operations_on next d m = go (effect (drop at xs) es) refl m (effect_fits (drop at xs) es)
-    where
-      go : (t : Effect) → effect (drop at xs) es ≡ t → Meets t at (Ok next) d → Fits t (length (drop at xs))
-          → (fs : List Expr) × Holds d fs × (at < next) × (next ≤ length xs) × (operations (drop next xs) 0 next fs ≡ operations (drop at xs) 0 at es)
+      go : (t : Effect) → effect old.rest.now es ≡ t → Works 0 t old new (Ok tt) → Fits t (length old.rest.now)
+          → (fs : List Expr) × Holds new.draft fs × (length new.rest.now < length old.rest.now)
+          × (operations new.rest.now 0 (old.place + (length old.rest.now - length new.rest.now)) fs ≡ operations old.rest.now 0 old.place es)
       go (refused c) e k i = absurd (let w : ◌≡◌ {A = ℕ} 0 1 = cc in omega arith)
       go (leaves n fs) e k i =
-          let z = k.0 in
-          let s : next ≡ at + n = cc in
-          let ld = length-drop at xs in
-          let lr = length-drop (at + 1) xs in
-          let long : pred n ≤ length (drop (at + 1) xs) = omega (arith, i.0, i.1) in
-          let to : at + 1 + pred n ≡ next = omega (arith, i.0) in
-          let on : suc at + pred n ≡ next = omega (arith, i.0) in (
+          let bs = old.rest.now in
+          let same : k.2.0 ≡ n = omega (arith, k.2.1) in
+          let left : new.rest.now ≡ drop n bs = k.2.2 ∙ ap (λ j. drop j bs) same in
+          let shorter = ap length left in
+          let long : pred n ≤ length (drop 1 bs) = omega (arith, i.0, i.1, length-drop 1 bs) in
+          let to : 1 + pred n ≡ n = omega (arith, i.0) in
+          let place : suc old.place + pred n ≡ old.place + (length bs - length new.rest.now) = omega (arith, i.0, i.1, shorter, length-drop n bs) in (
             fs,
             k.1,
-            omega (arith, i.0),
-            omega (arith, i.1),
-            sym (operations_at ∙ ap (λ t. onward t at (λ n fs. operations (drop (at + 1) xs) (pred n) (suc at) fs)) e
-                ∙ pass_over (drop (at + 1) xs) (pred n) (suc at) fs long
-                ∙ ap (λ bs. operations bs 0 (suc at + pred n) fs) (drop-drop (pred n) (at + 1) xs ∙ ap (λ i. drop i xs) to)
-                ∙ ap (λ p. operations (drop next xs) 0 p fs) on),
+            omega (arith, i.0, i.1, shorter, length-drop n bs),
+            sym (first bs old.place es l ∙ ap (λ t. onward t old.place (λ n fs. operations (drop 1 bs) (pred n) (suc old.place) fs)) e
+                ∙ pass_over (drop 1 bs) (pred n) (suc old.place) fs long
+                ∙ ap (λ ys. operations ys 0 (suc old.place + pred n) fs) (drop-drop (pred n) 1 bs ∙ ap (λ j. drop j bs) to ∙ sym left)
+                ∙ ap (λ p. operations new.rest.now 0 p fs) place),
           )

@@ -1,18 +1,17 @@
 -- Decoding what an expression writes.
-use Rattle.std.proofs.Common.{◌≡◌, ℕ, zero, suc, pred, ◌+◌, ◌-◌, ◌*◌, ◌/◌, ◌%◌, ◌<◌, ◌≤◌, max, Bool, true, false, cond, List, [], ◌∷◌, ◌++◌, length, take, drop, Some, None, Result, sym, refl, ap, ◌∙◌, subst, inl, inr, append_assoc, arith, length-append, le-ltb, lt-ltb, le-leb}
+use Rattle.std.proofs.Common.{◌≡◌, ℕ, zero, suc, pred, ◌+◌, ◌-◌, ◌*◌, ◌/◌, ◌%◌, ◌<◌, ◌≤◌, max, Bool, true, false, cond, List, [], ◌∷◌, ◌++◌, length, take, drop, Some, None, Err, Result, sym, refl, ap, ◌∙◌, subst, inl, inr, append_assoc, arith, length-append, le-ltb, lt-ltb, le-leb}
 use Rattle.std.proofs.lemmas.Bool.{cases_lt}
 use Rattle.std.proofs.lemmas.List.{append-nil, take_at, drop_at}
 use Rattle.fault.specs.declared.cause.Cause.TheVariants.{Malformed, PatternLimit}
 use Rattle.fault.specs.declared.refusal.Fault.{Fault}
-use Rattle.pattern.specs.Limits.{most_points, most_text, most_standing, largest_number}
+use Rattle.pattern.specs.Limits.{most_points, most_text, most_standing, most_file, largest_number}
 use Rattle.pattern.specs.Numbers.{Long, under, groups, small, number, grouped, shortest}
 use Rattle.pattern.specs.Expressions.{Expr, empty, read, text, seq, alt, star, size, texts, standing, Writable, read_number, written}
-use Rattle.pattern.specs.Files.{total, bytes, within, refused, leaves, limited, given, reading, texting, effect, onward, operations}
+use Rattle.pattern.specs.Files.{total, bytes, within, refused, leaves, limited, given, reading, texting, effect, onward, operations, decoded}
 use Rattle.pattern.specs.Laws.{ReadsBack}
 use Rattle.pattern.proofs.Numerals.{small_in}
 use Rattle.pattern.proofs.Drafting.{within_limits}
 use Rattle.pattern.proofs.Operating.{pass_over}
-use Rattle.pattern.proofs.Endings.{decoded_in}
 
 -- what k + 1 groups can hold
 abbrev room : ℕ → ℕ
@@ -153,6 +152,9 @@ reads_on (star e) rest place es r w =
     ∙ reads_on e (6 ∷ rest) place es (record { points = omega (arith, r.points); text = r.text; standing = r.standing }) w
     ∙ gone 6 [] rest 1 (place + length (written e)) (e ∷ es) (star e ∷ es) (fits es (star e) r (stands (star e))) refl refl
     ∙ ap (λ p. operations rest 0 p (star e ∷ es)) (omega arith)
+
+decoded_in : (xs : List ℕ) → length xs ≤ most_file → decoded xs ≡ operations xs 0 0 []
+decoded_in xs h = ap (λ t. cond t (operations xs 0 0 []) (Err (record { cause = PatternLimit; place = 0 }))) (le-leb (length xs) most_file h)
 
 pub reads_back : ReadsBack
 reads_back e w =

@@ -4,6 +4,8 @@ pub mod Operations
 pub mod Expressions
 pub mod Points
 pub mod Files
-pub mod Drafts
 pub mod Patterns
+pub mod Held
+pub mod Drafts
+pub mod Loading
 pub mod Laws

@@ -1,7 +1,8 @@
 -- The operations of a pattern file and their numbers. Assumes nothing.
-use Rattle.std.specs.Prelude.{ℕ, zero, suc, Some, None, Option}
+use Rattle.std.specs.Prelude.{◌≡◌, ℕ, zero, suc, Some, None, Option, Result, MatchResult}
 use Rattle.pattern.specs.declared.operation.Operation.{Operation}
 use Rattle.pattern.specs.declared.operation.Operation.TheVariants.{Empty, Drops, Keeps, Text, Sequence, Choice, Star}
+use Rattle.pattern.specs.declared.operation.UnknownOperation.{UnknownOperation}
 
 abbrev pub number_of : Operation → ℕ
 number_of Empty = 0
@@ -22,3 +23,7 @@ operation_of (suc (suc (suc (suc zero)))) = Some Sequence
 operation_of (suc (suc (suc (suc (suc zero))))) = Some Choice
 operation_of (suc (suc (suc (suc (suc (suc zero)))))) = Some Star
 operation_of (suc (suc (suc (suc (suc (suc (suc n))))))) = None
+
+-- the answer is the operation of this number, or an error that names a number that none has
+abbrev pub Decodes : ℕ → Result Operation UnknownOperation → Type 0
+Decodes n r = MatchResult r (λ o. operation_of n ≡ Some o) (λ e. (operation_of n ≡ None) × (e.0 ≡ n))

@@ -5,7 +5,7 @@ ghost use Rattle.pattern.specs.Numbers.{number, found};
 use crate::limits::LARGEST_NUMBER;
 
 // A byte from here on says that another byte of the number follows; its other seven bits are the group.
-const MORE: u32 = 128;
+const MORE: u8 = 128;
 
 // A number that was read, and the offset of what follows it.
 #[derive(Clone, Copy, Debug, PartialEq)]
@@ -18,37 +18,20 @@ pub struct Number {
 pub fn read_number(file: &[u8], at: usize) -> Option<Number>
     ensures { result ≡ found at (number (drop at file.now)) }
 {
-    if at >= file.len() {
-        return None;
-    }
-    let first = u32::from(file[at]);
-    if first < MORE {
-        return Some(Number {
-            value: first as u16,
-            next: at + 1,
-        });
-    }
-    if at + 1 >= file.len() {
-        return None;
-    }
-    let second = u32::from(file[at + 1]);
-    if second < MORE {
-        let value = first % 128 + 128 * second;
-        return Some(Number {
-            value: value as u16,
-            next: at + 2,
-        });
-    }
-    if at + 2 >= file.len() {
-        return None;
-    }
-    let third = u32::from(file[at + 2]);
-    let value = first % 128 + 128 * (second % 128) + 16384 * third;
-    if third >= MORE || value > LARGEST_NUMBER {
+    let (value, length) = match *file.get(at..)? {
+        [a, ..] if a < MORE => (u32::from(a), 1),
+        [a, b, ..] if b < MORE => (u32::from(a % MORE) + 128 * u32::from(b), 2),
+        [a, b, c, ..] if c < MORE => (
+            u32::from(a % MORE) + 128 * u32::from(b % MORE) + 16384 * u32::from(c),
+            3,
+        ),
+        _ => return None,
+    };
+    if value > LARGEST_NUMBER {
         return None;
     }
     Some(Number {
         value: value as u16,
-        next: at + 3,
+        next: at + length,
     })
 }

@@ -1,6 +1,8 @@
 // The operations of a pattern file.
-ghost use Rattle.std.specs.Prelude.{◌≡◌};
-ghost use Rattle.pattern.specs.Operations.{operation_of};
+ghost use Rattle.pattern.specs.Operations.{Decodes};
+
+use std::error::Error;
+use std::fmt;
 
 #[derive(Clone, Copy, Debug, PartialEq)]
 pub enum Operation {
@@ -20,20 +22,33 @@ pub enum Operation {
     Star,
 }
 
-impl Operation {
-    // The operation of this number.
-    pub fn of(number: u16) -> Option<Operation>
-        ensures { result ≡ operation_of number }
-    {
+// A number that no operation has.
+#[derive(Clone, Copy, Debug, PartialEq)]
+pub struct UnknownOperation(pub u16);
+
+impl TryFrom<u16> for Operation {
+    type Error = UnknownOperation;
+
+    ghost try_from_gives = { Decodes };
+
+    fn try_from(number: u16) -> Result<Self, UnknownOperation> {
         match number {
-            0 => Some(Operation::Empty),
-            1 => Some(Operation::Drops),
-            2 => Some(Operation::Keeps),
-            3 => Some(Operation::Text),
-            4 => Some(Operation::Sequence),
-            5 => Some(Operation::Choice),
-            6 => Some(Operation::Star),
-            _ => None,
+            0 => Ok(Operation::Empty),
+            1 => Ok(Operation::Drops),
+            2 => Ok(Operation::Keeps),
+            3 => Ok(Operation::Text),
+            4 => Ok(Operation::Sequence),
+            5 => Ok(Operation::Choice),
+            6 => Ok(Operation::Star),
+            _ => Err(UnknownOperation(number)),
         }
     }
 }
+
+impl fmt::Display for UnknownOperation {
+    fn fmt<W: fmt::Write>(&self, f: &mut fmt::Formatter<W>) -> fmt::Result {
+        write!(f, "no operation has the number {}", self.0)
+    }
+}
+
+impl Error for UnknownOperation {}

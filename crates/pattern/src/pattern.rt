@@ -10,6 +10,7 @@ mod calls;
 mod draft;
 mod load;
 
+// Its lists are arrays with a length, since a pattern is Copy, which a vector of fixed capacity is not.
 #[derive(Clone, Copy)]
 pub struct Pattern {
     points: [Point; POINTS],

@@ -1,8 +1,10 @@
 // The points of a pattern.
 ghost use Rattle.std.specs.Prelude.{◌≡◌, map};
-ghost use Rattle.pattern.specs.Points.{known as led, fill};
+ghost use Rattle.pattern.specs.declared.point.Point.TheVariants.{Choice};
+ghost use Rattle.pattern.specs.Points.{known as led, fill, open_end};
 
 // In the place of a follower that is not known yet. While one is missing there are fewer points than that.
+// No option: a finished pattern lacks no follower, and would need points of another type than its draft.
 pub(crate) const OPEN: u8 = 255;
 
 // A point: one read, text, choice or star of an expression, with the numbers of the points that it leads to.
@@ -15,6 +17,18 @@ pub enum Point {
     Choice { first: u8, second: u8 },
     // the first branch goes round, the second goes on
     Star { first: u8, second: u8 },
+}
+
+// What stands in the unused places of a table: nothing of it is known.
+impl Default for Point {
+    ghost is_default = { λ p. p ≡ Choice open_end open_end };
+
+    fn default() -> Point {
+        Point::Choice {
+            first: OPEN,
+            second: OPEN,
+        }
+    }
 }
 
 // `next` in the place of OPEN.

@@ -7,7 +7,7 @@ ghost use Rattle.pattern.specs.Patterns.{Is, points_of, text_of, entry_of, bytes
 
 use super::Pattern;
 use crate::limits::{POINTS, TEXT_BYTES};
-use crate::point::{OPEN, Point};
+use crate::point::Point;
 use crate::step::Step;
 
 impl Pattern {
@@ -16,10 +16,7 @@ impl Pattern {
         ensures { Is result empty }
     {
         Pattern {
-            points: [Point::Choice {
-                first: OPEN,
-                second: OPEN,
-            }; POINTS],
+            points: [Point::default(); POINTS],
             count: 0,
             text: [0; TEXT_BYTES],
             used: 0,
@@ -67,20 +64,8 @@ impl Pattern {
         ensures { result ≡ step_at (points_of self.now) at }
     {
         match self.point(at) {
-            Some(
-                Point::Read {
-                    keep: _,
-                    class,
-                    next,
-                },
-            ) => Step::Read { class, next },
-            Some(
-                Point::Text {
-                    start: _,
-                    len: _,
-                    next,
-                },
-            ) => Step::Pass { next },
+            Some(Point::Read { class, next, .. }) => Step::Read { class, next },
+            Some(Point::Text { next, .. }) => Step::Pass { next },
             Some(Point::Choice { first, second }) => Step::Fork { first, second },
             Some(Point::Star { first, second }) => Step::Fork { first, second },
             None => Step::End,
@@ -91,19 +76,11 @@ impl Pattern {
     pub fn text(&self, at: u8) -> &[u8]
         ensures { result.now ≡ bytes_at (text_of self.now) (slice_get (points_of self.now) at) }
     {
-        if at < self.count {
-            let point = self.points[at as usize];
-            if let Point::Text {
-                start,
-                len,
-                next: _,
-            } = point
-            {
-                let start = start as usize;
-                let end = start + len as usize;
-                return &self.text[start..end];
-            }
-        }
-        &self.text[0..0]
+        let Some(Point::Text { start, len, .. }) = self.point(at) else {
+            return &[];
+        };
+        let start = usize::from(start);
+        let end = start + usize::from(len);
+        &self.text[start..end]
     }
 }

@@ -1,17 +1,16 @@
 // A pattern while its file is being read: the expressions that stand together, oldest first.
-ghost use Rattle.std.specs.Prelude.{◌≡◌, ℕ, List, [], ◌∷◌};
-ghost use Rattle.pattern.specs.Expressions.{Expr, empty as blank, read as reading, text as texted, seq, alt, star as starred};
-ghost use Rattle.pattern.specs.Files.{limited, on_two, on_one};
-ghost use Rattle.pattern.specs.Drafts.{Holds, Drafted, Done};
-ghost use Rattle.pattern.specs.Patterns.{Is};
+ghost use Rattle.std.specs.Prelude.{◌≡◌, ◌≤◌, List, length, take};
+ghost use Rattle.pattern.specs.Expressions.{Expr};
+ghost use Rattle.pattern.specs.Held.{Hold};
 
 use super::Pattern;
 use crate::limits::{POINTS, STANDING, TEXT_BYTES};
 use crate::point::{OPEN, Point, fill_all, known};
+use arrayvec::ArrayVec;
 use fault::{Cause, Fault};
 
 // One expression: the number of its first point, and its entry.
-#[derive(Clone, Copy)]
+#[derive(Clone, Copy, Default)]
 pub(crate) struct Part {
     start: usize,
     entry: u8,
@@ -19,224 +18,183 @@ pub(crate) struct Part {
 
 #[derive(Drop)]
 pub(crate) struct Draft {
-    points: [Point; POINTS],
-    count: usize,
-    text: [u8; TEXT_BYTES],
-    used: usize,
-    parts: [Part; STANDING],
-    height: usize,
+    points: ArrayVec<Point, POINTS>,
+    text: ArrayVec<u8, TEXT_BYTES>,
+    parts: ArrayVec<Part, STANDING>,
+    // some expressions stand in it
+    ghost held: { ∥ ((es : List Expr) × Hold points.items text.items parts.items es) ∥₁ },
 }
 
-// A limit is passed by the operation at this offset.
-fn too_large(at: usize) -> Fault
-    ensures { result ≡ record { cause = Cause.PatternLimit; place = at } }
+// The items at the front of an array.
+fn array_of<T: Copy + Default, const N: usize>(items: &ArrayVec<T, N>) -> [T; N]
+    ensures front { take (length items.now.items) result ≡ items.now.items }
+    ensures inside { length items.now.items ≤ length result }
 {
-    Fault {
-        cause: Cause::PatternLimit,
-        place: at as u64,
-    }
-}
-
-// The operation at this offset makes no sense there.
-pub(crate) fn malformed(at: usize) -> Fault
-    ensures { result ≡ record { cause = Cause.Malformed; place = at } }
-{
-    Fault {
-        cause: Cause::Malformed,
-        place: at as u64,
-    }
+    let mut array = [T::default(); N];
+    array[..items.len()].copy_from_slice(items.as_slice());
+    array
 }
 
 impl Draft {
+    ghost use Rattle.std.specs.Prelude.{ℕ, [], ◌∷◌};
+    ghost use Rattle.pattern.specs.Expressions.{empty as blank, read as reading, text as texted, seq, alt, star as starred};
+    ghost use Rattle.pattern.specs.Files.{limited, on_two, on_one, final};
+    ghost use Rattle.pattern.specs.Drafts.{Holds, Done, Finished};
+
     pub(crate) fn new() -> Draft
         ensures { Holds result [] }
     {
         Draft {
-            points: [Point::Choice {
-                first: OPEN,
-                second: OPEN,
-            }; POINTS],
-            count: 0,
-            text: [0; TEXT_BYTES],
-            used: 0,
-            parts: [Part {
-                start: 0,
-                entry: OPEN,
-            }; STANDING],
-            height: 0,
+            points: ArrayVec::new(),
+            text: ArrayVec::new(),
+            parts: ArrayVec::new(),
         }
     }
 
     // The empty expression.
-    pub(crate) fn empty(&mut self, at: usize) -> Result<(), Fault>
-        requires { Drafted self.old }
-        ensures { (n : ℕ) (es : List Expr) → Holds self.old es → Done (limited n (blank ∷ es)) at result self.new }
+    pub(crate) fn empty(&mut self, place: u64) -> Result<(), Fault>
+        ensures { (n : ℕ) (es : List Expr) → Holds self.old es → Done (limited n (blank ∷ es)) place result self.new }
     {
-        if self.height >= STANDING {
-            return Err(too_large(at));
+        if self.parts.is_full() {
+            return Err(Fault::new(Cause::PatternLimit, place));
         }
-        self.parts[self.height] = Part {
-            start: self.count,
+        self.parts.push(Part {
+            start: self.points.len(),
             entry: OPEN,
-        };
-        self.height += 1;
+        });
         Ok(())
     }
 
     // A read of a class.
-    pub(crate) fn read(&mut self, at: usize, keep: bool, class: u16) -> Result<(), Fault>
-        requires { Drafted self.old }
-        ensures { (n : ℕ) (es : List Expr) → Holds self.old es → Done (limited n (reading keep class ∷ es)) at result self.new }
+    pub(crate) fn read(&mut self, place: u64, keep: bool, class: u16) -> Result<(), Fault>
+        ensures { (n : ℕ) (es : List Expr) → Holds self.old es → Done (limited n (reading keep class ∷ es)) place result self.new }
     {
-        if self.count >= POINTS || self.height >= STANDING {
-            return Err(too_large(at));
+        if self.points.is_full() || self.parts.is_full() {
+            return Err(Fault::new(Cause::PatternLimit, place));
         }
-        let count = self.count;
-        self.points[count] = Point::Read {
+        let start = self.points.len();
+        self.points.push(Point::Read {
             keep,
             class,
             next: OPEN,
-        };
-        self.count = count + 1;
-        self.parts[self.height] = Part {
-            start: count,
-            entry: count as u8,
-        };
-        self.height += 1;
+        });
+        self.parts.push(Part {
+            start,
+            entry: start as u8,
+        });
         Ok(())
     }
 
     // A text.
-    pub(crate) fn text(&mut self, at: usize, bytes: &[u8]) -> Result<(), Fault>
-        requires { Drafted self.old }
-        ensures { (n : ℕ) (es : List Expr) → Holds self.old es → Done (limited n (texted bytes.now ∷ es)) at result self.new }
+    pub(crate) fn text(&mut self, place: u64, bytes: &[u8]) -> Result<(), Fault>
+        ensures { (n : ℕ) (es : List Expr) → Holds self.old es → Done (limited n (texted bytes.now ∷ es)) place result self.new }
     {
-        let len = bytes.len();
-        let used = self.used;
-        if self.count >= POINTS || len > TEXT_BYTES - used || self.height >= STANDING {
-            return Err(too_large(at));
+        if self.points.is_full() || self.parts.is_full() {
+            return Err(Fault::new(Cause::PatternLimit, place));
         }
-        self.text[used..used + len].copy_from_slice(bytes);
-        self.used = used + len;
-        let count = self.count;
-        self.points[count] = Point::Text {
-            start: used as u16,
-            len: len as u16,
+        let begin = self.text.len();
+        let Ok(()) = self.text.try_extend_from_slice(bytes) else {
+            return Err(Fault::new(Cause::PatternLimit, place));
+        };
+        let start = self.points.len();
+        self.points.push(Point::Text {
+            start: begin as u16,
+            len: bytes.len() as u16,
             next: OPEN,
-        };
-        self.count = count + 1;
-        self.parts[self.height] = Part {
-            start: count,
-            entry: count as u8,
-        };
-        self.height += 1;
+        });
+        self.parts.push(Part {
+            start,
+            entry: start as u8,
+        });
         Ok(())
     }
 
     // A sequence of the last two expressions.
-    pub(crate) fn sequence(&mut self, at: usize) -> Result<(), Fault>
-        requires { Drafted self.old }
-        ensures { (n : ℕ) (es : List Expr) → Holds self.old es → Done (on_two seq n es) at result self.new }
+    pub(crate) fn sequence(&mut self, place: u64) -> Result<(), Fault>
+        ensures { (n : ℕ) (es : List Expr) → Holds self.old es → Done (on_two seq n es) place result self.new }
     {
-        let height = self.height;
-        if height < 2 {
-            return Err(malformed(at));
-        }
-        let later = self.parts[height - 1];
-        let older = self.parts[height - 2];
-        let start = older.start;
-        let end = later.start;
-        fill_all(&mut self.points[start..end], later.entry);
-        self.parts[height - 2] = Part {
-            start,
-            entry: known(older.entry, later.entry),
+        let [.., older, later] = *self.parts.as_slice() else {
+            return Err(Fault::new(Cause::Malformed, place));
         };
-        self.height = height - 1;
+        fill_all(&mut self.points[older.start..later.start], later.entry);
+        self.parts.pop();
+        self.parts.pop();
+        self.parts.push(Part {
+            start: older.start,
+            entry: known(older.entry, later.entry),
+        });
         Ok(())
     }
 
     // A choice of the last two expressions.
-    pub(crate) fn choice(&mut self, at: usize) -> Result<(), Fault>
-        requires { Drafted self.old }
-        ensures { (n : ℕ) (es : List Expr) → Holds self.old es → Done (on_two alt n es) at result self.new }
+    pub(crate) fn choice(&mut self, place: u64) -> Result<(), Fault>
+        ensures { (n : ℕ) (es : List Expr) → Holds self.old es → Done (on_two alt n es) place result self.new }
     {
-        let height = self.height;
-        if height < 2 {
-            return Err(malformed(at));
+        let [.., older, later] = *self.parts.as_slice() else {
+            return Err(Fault::new(Cause::Malformed, place));
+        };
+        if self.points.is_full() {
+            return Err(Fault::new(Cause::PatternLimit, place));
         }
-        let count = self.count;
-        if count >= POINTS {
-            return Err(too_large(at));
-        }
-        let later = self.parts[height - 1];
-        let older = self.parts[height - 2];
-        self.points[count] = Point::Choice {
+        let entry = self.points.len() as u8;
+        self.points.push(Point::Choice {
             first: older.entry,
             second: later.entry,
-        };
-        self.count = count + 1;
-        self.parts[height - 2] = Part {
+        });
+        self.parts.pop();
+        self.parts.pop();
+        self.parts.push(Part {
             start: older.start,
-            entry: count as u8,
-        };
-        self.height = height - 1;
+            entry,
+        });
         Ok(())
     }
 
     // A star of the last expression.
-    pub(crate) fn star(&mut self, at: usize) -> Result<(), Fault>
-        requires { Drafted self.old }
-        ensures { (n : ℕ) (es : List Expr) → Holds self.old es → Done (on_one starred n es) at result self.new }
+    pub(crate) fn star(&mut self, place: u64) -> Result<(), Fault>
+        ensures { (n : ℕ) (es : List Expr) → Holds self.old es → Done (on_one starred n es) place result self.new }
     {
-        let height = self.height;
-        if height < 1 {
-            return Err(malformed(at));
+        let [.., last] = *self.parts.as_slice() else {
+            return Err(Fault::new(Cause::Malformed, place));
+        };
+        if self.points.is_full() {
+            return Err(Fault::new(Cause::PatternLimit, place));
         }
-        let count = self.count;
-        if count >= POINTS {
-            return Err(too_large(at));
-        }
-        let last = self.parts[height - 1];
-        let start = last.start;
-        let star = count as u8;
-        fill_all(&mut self.points[start..count], star);
-        self.points[count] = Point::Star {
+        let star = self.points.len() as u8;
+        fill_all(&mut self.points[last.start..], star);
+        self.points.push(Point::Star {
             first: known(last.entry, star),
             second: OPEN,
-        };
-        self.count = count + 1;
-        self.parts[height - 1] = Part { start, entry: star };
+        });
+        self.parts.pop();
+        self.parts.push(Part {
+            start: last.start,
+            entry: star,
+        });
         Ok(())
     }
 
-    // How many expressions stand together.
-    pub(crate) fn height(&self) -> usize
-        ensures { result ≡ self.now.height }
-    {
-        self.height
-    }
-
-    // The pattern of the one expression that stands.
-    pub(crate) fn into_pattern(self) -> Pattern
-        requires { (e : Expr) × Holds self (e ∷ []) }
-        ensures { (e : Expr) → Holds self (e ∷ []) → Is result e }
+    // The pattern of the one expression that stands; a refusal at the end of the file where it is not one.
+    pub(crate) fn into_pattern(self, place: u64) -> Result<Pattern, Fault>
+        ensures { (es : List Expr) → Holds self es → Finished (final place es) result }
     {
         let Draft {
             mut points,
-            count,
             text,
-            used,
             parts,
-            height: _,
+            ..
         } = self;
-        let end = count as u8;
-        fill_all(&mut points[0..count], end);
-        Pattern {
-            points,
+        let [part] = *parts.as_slice() else {
+            return Err(Fault::new(Cause::Malformed, place));
+        };
+        let end = points.len() as u8;
+        fill_all(points.as_mut_slice(), end);
+        Ok(Pattern {
+            points: array_of(&points),
             count: end,
-            text,
-            used: used as u16,
-            entry: known(parts[0].entry, end),
-        }
+            text: array_of(&text),
+            used: text.len() as u16,
+            entry: known(part.entry, end),
+        })
     }
 }

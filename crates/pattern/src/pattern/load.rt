@@ -1,91 +1,81 @@
 // The reader of pattern files.
-ghost use Rattle.std.specs.Prelude.{◌≡◌, ◌-◌, ◌<◌, ◌≤◌, List, length, drop};
+ghost use Rattle.std.specs.Prelude.{ℕ, List};
 ghost use Rattle.pattern.specs.Expressions.{Expr};
 ghost use Rattle.pattern.specs.Files.{effect, decoded, given, reading, texting};
 ghost use Rattle.pattern.specs.Numbers.{number};
-ghost use Rattle.pattern.specs.Drafts.{Holds, Drafted, Meets};
+ghost use Rattle.pattern.specs.Drafts.{Holds};
+ghost use Rattle.pattern.specs.Loading.{Taken, Works};
 ghost use Rattle.pattern.specs.Patterns.{Loaded};
 
 use super::Pattern;
-use super::draft::{Draft, malformed};
+use super::draft::Draft;
 use crate::limits::FILE_BYTES;
 use crate::number::read_number;
 use crate::operation::Operation;
 use fault::{Cause, Fault};
 
-// A number of the operation at this offset cannot be read.
-fn unreadable(at: usize) -> Fault
-    ensures { result ≡ record { cause = Cause.UnreadableNumber; place = at } }
-{
-    Fault {
-        cause: Cause::UnreadableNumber,
-        place: at as u64,
-    }
+// A file while it is read: what stands, the bytes that are still unread, and the place of the operation that is worked.
+#[derive(Drop)]
+struct Loader<'a> {
+    draft: Draft,
+    rest: &'a [u8],
+    place: u64,
 }
 
-// A read: the class stands at `next`.
-fn work_read(
-    draft: &mut Draft,
-    file: &[u8],
-    at: usize,
-    next: usize,
-    keep: bool,
-) -> Result<usize, Fault>
-    requires drafted { Drafted draft.old }
-    requires after { at ≤ next }
-    requires inside { next ≤ length file.now }
-    ensures { (es : List Expr) → Holds draft.old es → Meets (given (number (drop next file.now)) (reading keep (next - at) es)) at result draft.new }
-{
-    let Some(class) = read_number(file, next) else {
-        return Err(unreadable(at));
-    };
-    draft.read(at, keep, class.value)?;
-    Ok(class.next)
-}
-
-// A text: its length stands at `next`, and its bytes after that.
-fn work_text(draft: &mut Draft, file: &[u8], at: usize, next: usize) -> Result<usize, Fault>
-    requires drafted { Drafted draft.old }
-    requires after { at ≤ next }
-    requires inside { next ≤ length file.now }
-    ensures { (es : List Expr) → Holds draft.old es → Meets (given (number (drop next file.now)) (texting (next - at) (drop next file.now) es)) at result draft.new }
-{
-    let Some(len) = read_number(file, next) else {
-        return Err(unreadable(at));
-    };
-    let start = len.next;
-    let size = usize::from(len.value);
-    if size > file.len() - start {
-        return Err(malformed(at));
+impl Loader<'_> {
+    // Takes the next number.
+    fn number(&mut self) -> Option<u16>
+        ensures { Taken (number self.old.rest.now) self.old self.new result }
+    {
+        let number = read_number(self.rest, 0)?;
+        self.rest = &self.rest[number.next..];
+        Some(number.value)
     }
-    let end = start + size;
-    draft.text(at, &file[start..end])?;
-    Ok(end)
-}
 
-// Works the operation at `at`, and answers where the next one begins.
-fn operate(draft: &mut Draft, file: &[u8], at: usize) -> Result<usize, Fault>
-    requires drafted { Drafted draft.old }
-    requires inside { at < length file.now }
-    ensures { (es : List Expr) → Holds draft.old es → Meets (effect (drop at file.now) es) at result draft.new }
-{
-    let Some(code) = read_number(file, at) else {
-        return Err(unreadable(at));
-    };
-    let Some(operation) = Operation::of(code.value) else {
-        return Err(malformed(at));
-    };
-    let next = code.next;
-    match operation {
-        Operation::Empty => draft.empty(at)?,
-        Operation::Drops => return work_read(draft, file, at, next, false),
-        Operation::Keeps => return work_read(draft, file, at, next, true),
-        Operation::Text => return work_text(draft, file, at, next),
-        Operation::Sequence => draft.sequence(at)?,
-        Operation::Choice => draft.choice(at)?,
-        Operation::Star => draft.star(at)?,
+    // A read: its class comes next.
+    fn read(&mut self, keep: bool) -> Result<(), Fault>
+        ensures { (n : ℕ) (es : List Expr) → Holds self.old.draft es → Works n (given (number self.old.rest.now) (reading keep n es)) self.old self.new result }
+    {
+        let Some(class) = self.number() else {
+            return Err(Fault::new(Cause::UnreadableNumber, self.place));
+        };
+        self.draft.read(self.place, keep, class)
     }
-    Ok(next)
+
+    // A text: its length and its bytes come next.
+    fn text(&mut self) -> Result<(), Fault>
+        ensures { (n : ℕ) (es : List Expr) → Holds self.old.draft es → Works n (given (number self.old.rest.now) (texting n self.old.rest.now es)) self.old self.new result }
+    {
+        let Some(length) = self.number() else {
+            return Err(Fault::new(Cause::UnreadableNumber, self.place));
+        };
+        let Some((bytes, rest)) = self.rest.split_at_checked(usize::from(length)) else {
+            return Err(Fault::new(Cause::Malformed, self.place));
+        };
+        self.rest = rest;
+        self.draft.text(self.place, bytes)
+    }
+
+    // Works the next operation.
+    fn operate(&mut self) -> Result<(), Fault>
+        ensures { (es : List Expr) → Holds self.old.draft es → Works 0 (effect self.old.rest.now es) self.old self.new result }
+    {
+        let Some(code) = self.number() else {
+            return Err(Fault::new(Cause::UnreadableNumber, self.place));
+        };
+        let Ok(operation) = Operation::try_from(code) else {
+            return Err(Fault::new(Cause::Malformed, self.place));
+        };
+        match operation {
+            Operation::Empty => self.draft.empty(self.place),
+            Operation::Drops => self.read(false),
+            Operation::Keeps => self.read(true),
+            Operation::Text => self.text(),
+            Operation::Sequence => self.draft.sequence(self.place),
+            Operation::Choice => self.draft.choice(self.place),
+            Operation::Star => self.draft.star(self.place),
+        }
+    }
 }
 
 impl Pattern {
@@ -94,20 +84,18 @@ impl Pattern {
         ensures { Loaded (decoded file.now) result self.old self.new }
     {
         if file.len() > FILE_BYTES {
-            return Err(Fault {
-                cause: Cause::PatternLimit,
-                place: 0,
-            });
+            return Err(Fault::new(Cause::PatternLimit, 0));
         }
-        let mut draft = Draft::new();
-        let mut at = 0;
-        while at < file.len() {
-            at = operate(&mut draft, file, at)?;
+        let mut loader = Loader {
+            draft: Draft::new(),
+            rest: file,
+            place: 0,
+        };
+        while !loader.rest.is_empty() {
+            loader.place = (file.len() - loader.rest.len()) as u64;
+            loader.operate()?;
         }
-        if draft.height() != 1 {
-            return Err(malformed(file.len()));
-        }
-        *self = draft.into_pattern();
+        *self = loader.draft.into_pattern(file.len() as u64)?;
         Ok(())
     }
 }
