@@ -4,8 +4,8 @@ use Rattle.std.proofs.lemmas.Bool.{cases_lt, eq-eqb, ne_eqb}
 use Rattle.std.proofs.lemmas.Bool.Decides.{nat_tests}
 use Rattle.tree.specs.declared.table.Entry.{Entry}
 use Rattle.tree.specs.declared.table.Table.{Table}
-use Rattle.tree.specs.declared.table.next.Next.{Next}
-use Rattle.tree.specs.declared.table.next.Next.TheVariants.{Nothing, Only, Several}
+use Rattle.tree.specs.declared.table.Next.{Next}
+use Rattle.tree.specs.declared.table.Next.TheVariants.{Nothing, Only, Several}
 use Rattle.tree.specs.Limits.{ways}
 use Rattle.tree.specs.Records.{at, blank}
 use Rattle.tree.specs.Sound.{total, kid, kid_slot, par, uses_of, below_of, Sound}

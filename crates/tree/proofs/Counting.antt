@@ -12,7 +12,7 @@ use Rattle.tree.proofs.Totals.{within}
 use Rattle.tree.proofs.Loose.{positive, root_used}
 
 -- ---- sums over kid-slots
-abbrev sum_to : (ℕ → ℕ) → ℕ → ℕ
+abbrev pub sum_to : (ℕ → ℕ) → ℕ → ℕ
 sum_to g zero = 0
 sum_to g (suc n) = g n + sum_to g n
 

@@ -1,5 +1,5 @@
 -- The calls by what is held.
-use Rattle.std.proofs.Common.{◌≡◌, ℕ, suc, ◌+◌, ◌<◌, ◌≤◌, true, false, ◌≢◌, List, [], ◌∷◌, ◌++◌, map, reverse, length, Some, None, Option, sym, refl, ap, ◌∙◌, subst, inl, inr, ⊎_elim, append_assoc, arith}
+use Rattle.std.proofs.Common.{◌≡◌, ℕ, suc, ◌+◌, ◌-◌, ◌<◌, ◌≤◌, true, false, ◌≢◌, List, [], ◌∷◌, ◌++◌, map, reverse, length, Some, Option, sym, refl, ap, ◌∙◌, subst, inl, inr, ⊎_elim, append_assoc, arith}
 use mathlib.Core.List.Memᴰ
 use mathlib.Core.List.{reverse-cons, reverse-append, reverse-reverse, Memᴰ}
 use lib.ListN.{length-map}
@@ -7,12 +7,15 @@ use Rattle.std.proofs.lemmas.Bool.{cases_eq, both_ways}
 use Rattle.tree.specs.declared.table.Table.{Table}
 use Rattle.tree.specs.declared.paths.PathTree.{PathTree}
 use Rattle.tree.specs.Limits.{capacity, first_slot}
-use Rattle.tree.specs.Sound.{par, item_of, held_of, Sound, Up, top, step, Grew, LetGo, Shifted, UpShares, Popped, Fresh}
+use Rattle.tree.specs.Sound.{par, item_of, uses_of, below_of, held_of, Sound, Up, top, step}
+use Rattle.tree.proofs.Moves.{Ready, Sole, Grew, LetGo, Shifted, UpShares, Fresh}
 use Rattle.tree.specs.declared.refusal.Refusal.{Refusal}
 use Rattle.tree.specs.declared.refusal.Refusal.TheVariants.{NotHeld, Full, Present, Forked}
-use Rattle.tree.specs.Next.{Child, Pair, Vetted, Bars}
+use Rattle.tree.specs.Next.{Stands, Child, Leads, Pair, Vetted, Bars}
+use Rattle.tree.specs.declared.table.Next.TheVariants.{Only}
+use Rattle.std.specs.Option.{option_to_list}
 use Rattle.tree.specs.Prefixes.{Once, Counts, Beginning}
-use Rattle.tree.specs.Held.{Held, Holder, Unheld, room, Start, New, Follows, Parts, Addable, Says, Added, Released, Taken, NoneShared, Takes}
+use Rattle.tree.specs.Held.{Held, Holder, Unheld, room, Start, New, Follows, Parts, Addable, Says, Added, Released, Taken, NoneShared}
 use Rattle.tree.proofs.Counting.{descend, path, path_up, strip, up_same, up_injective, counted, head, tail}
 use Rattle.tree.proofs.Loose.{positive, in_table, some_used}
 use Rattle.tree.proofs.Out.{sound_out}
@@ -261,10 +264,12 @@ barred t p x Full s A = let h = A.some in let e = s.1 in omega (arith, h, e)
 barred t p x Present s A = A.absent s.2
 barred t p x Forked s A = s.2.differ (A.single s.2.one s.2.other s.2.first s.2.second)
 
-pub popped_sound : (t : PathTree) (o : Option ℕ) (t' : Table) → Popped t.table o t' → ∥ Sound 0 t' ∥₁
-popped_sound t (Some x) t' R = ∣ R.sound ∣₁
-popped_sound t None t' R = subst (λ (v : Table). ∥ Sound 0 v ∥₁) (sym R.0) t.sound
+-- ---- what the calls have found
 
-pub takes : (t : PathTree) (o : Option ℕ) (t' : PathTree) → Popped t.table o t'.table → Takes t o t'
-takes t (Some x) t' R = taken t x t' R
-takes t None t' R = (none_shared t R.1, R.0)
+-- `add`, when it has vetted the item and taken a free slot
+pub ready : (t : PathTree) {p x s : ℕ} {o : Option ℕ} {rest : List ℕ} → t.table.spare.items ≡ rest ++ option_to_list o → o ≡ Some s → Vetted t.table p x → Ready t.table p x s rest
+ready t {rest = rest} e f V = record { sound = sound_of t; spare = e ∙ ap (λ (o : Option ℕ). rest ++ option_to_list o) f; vetted = V }
+
+-- `take_first`, when it has found the root's only child
+pub sole : (t : PathTree) {c : ℕ} → Leads t.table t.table.root (Only c) → Stands (uses_of t.table t.table.root - 1) (below_of t.table t.table.root - t.table.root) (Only c) → false ≡ held_of t.table t.table.root → Sole t.table c
+sole t l s h = record { sound = sound_of t; leads = l; counts = s; loose = sym h }

@@ -1,3 +1,5 @@
+mod Steps
+mod Moves
 mod Totals
 mod Grow
 mod Shed

@@ -4,8 +4,10 @@ use Rattle.std.proofs.Common.{◌≡◌, ℕ, ◌+◌, ◌*◌, ◌<◌, ◌≤�
 use Rattle.std.proofs.lemmas.Bool.{cases_eq, ne_eqb, both_ways}
 use Rattle.tree.specs.declared.table.Entry.{Entry}
 use Rattle.tree.specs.declared.table.Table.{Table}
-use Rattle.tree.specs.Records.{at, blank, loosened}
-use Rattle.tree.specs.Sound.{total, kid, kid_slot, counts_used, par, item_of, uses_of, below_of, held_of, free, Sound, Up, top, step, Pruning, Pruned, LetGo}
+use Rattle.tree.specs.Records.{at, blank}
+use Rattle.tree.specs.Sound.{total, kid, kid_slot, counts_used, par, item_of, uses_of, below_of, held_of, free, Sound, Up, top, step, Pruned}
+use Rattle.tree.proofs.Steps.{loosened}
+use Rattle.tree.proofs.Moves.{Pruning, LetGo}
 use Rattle.tree.proofs.Totals.{total_set, total_ge, total_kid_slot, within}
 
 -- the sum of the slots of few children is small
@@ -52,7 +54,6 @@ settled j t S k = record {
     few_root = S.shape.few_root;
   };
   size = S.size;
-  room = S.room;
   spares = S.spares;
   spares_apart = S.spares_apart;
   filled = S.filled;
@@ -60,9 +61,6 @@ settled j t S k = record {
 
 pub pruned : (t : Table) (j : ℕ) (t' : Table) → Pruning t j t' → (0 < uses_of t' j) ⊎ (held_of t' j ≡ true) → Pruned t t'
 pruned t j t' R k = record { sound = settled j t' R.sound k; room = R.room; root = R.root; holders = R.holders; paths = R.paths }
-
-pub pruning : (j : ℕ) (t : Table) → Sound j t → 0 < par t j → Pruning t j t
-pruning j t S u = record { sound = S; used = u; room = omega arith; root = refl; holders = λ k. refl; paths = λ k xs w v. w }
 
 module _ (t : Table) (i : ℕ) (S : Sound 0 t) (h : held_of t i ≡ true) where
   abbrev t' : Table
@@ -127,7 +125,6 @@ module _ (t : Table) (i : ℕ) (S : Sound 0 t) (h : held_of t i ≡ true) where
       few_root = rw (uses t.root) S.shape.few_root;
     };
     size = length-set t.entries i free_entry ∙ S.size;
-    room = S.room;
     spares = λ k l. let q = S.spares k l in (q.0, q.1, at_o (free t k) (λ e. let w = ap (par t) e in let z = ap (λ (e : Entry). e.parent) q.2 in let u = used in omega (arith, w, z, u)) ∙ q.2);
     spares_apart = S.spares_apart;
     filled = let e = sums counts_used refl in omega (arith, e, S.filled);
@@ -140,9 +137,6 @@ module _ (t : Table) (i : ℕ) (S : Sound 0 t) (h : held_of t i ≡ true) where
 
   pub loose_used : 0 < par t' i
   loose_used = rw (loose_par i) used
-
-  pub loose_in : i < slot_count
-  loose_in = rw S.size at i_in
 
   pub loose_released : (t2 : Table) → Pruned t' t2 → LetGo t i t2
   loose_released t2 R = record {

@@ -1,6 +1,6 @@
 -- That a tree is sound comes out of a truncation: what it carries besides facts can be computed again.
 use Rattle.tree.specs.Limits.{capacity, slot_count, ways}
-use Rattle.std.proofs.Common.{◌≡◌, ℕ, zero, suc, ◌+◌, ◌<◌, ◌≤◌, Bool, true, false, eqb, ◌≢◌, ◌⊎◌, List, length, refl, ap, inl, inr, ⊎_elim, not-suc-le-zero, arith}
+use Rattle.std.proofs.Common.{◌≡◌, ℕ, zero, suc, ◌+◌, ◌<◌, ◌≤◌, Bool, true, false, eqb, ◌≢◌, ◌⊎◌, List, length, sym, refl, ap, subst, inl, inr, ⊎_elim, not-suc-le-zero, arith}
 use native.Mathlib.Nat.{ℕ_set}
 use native.Mathlib.Bridge.{le_prop}
 use mathlib.Core.Logic.{∥∥₁_elim, ∥∥₁_map}
@@ -9,10 +9,11 @@ use mathlib.Core.Bool.{Bool-set}
 use Rattle.std.proofs.lemmas.Bool.{cases_eq, cases_Bool, eq-eqb, eqb-true, both_ways}
 use Rattle.tree.specs.declared.table.Entry.{Entry}
 use Rattle.tree.specs.declared.table.Table.{Table}
-use Rattle.tree.specs.Records.{at, blank}
-use Rattle.tree.specs.Sound.{total, counts_used, par, uses_of, below_of, held_of, free, kids, kid_slots, Sound, Up, top, step}
+use Rattle.tree.specs.Records.{at}
+use Rattle.tree.specs.Sound.{total, counts_used, par, uses_of, below_of, held_of, left, free, kids, kid_slots, Sound, Up, top, step}
+use Rattle.tree.proofs.Steps.{entry_blank}
 use Rattle.tree.proofs.Totals.{within}
-use Rattle.tree.proofs.Counting.{path_up}
+use Rattle.tree.proofs.Counting.{sum_to, path_up}
 
 -- the least number with a decidable property
 abbrev Least : (ℕ → Bool) → Type 0
@@ -50,16 +51,14 @@ eq_out a b z = ∥∥₁_elim z (ℕ_set a b) (λ e. e)
 pub le_out : (a b : ℕ) → ∥ a ≤ b ∥₁ → a ≤ b
 le_out a b z = ∥∥₁_elim z le_prop (λ e. e)
 
+zero_le : (n : ℕ) → 0 ≤ n
+zero_le n = omega arith
+
 pos_cases : (n : ℕ) → (0 < n) ⊎ (n ≡ 0)
 pos_cases zero = inr refl
 pos_cases (suc n) = inl (omega arith)
 
-sum_to : (ℕ → ℕ) → ℕ → ℕ
-sum_to g zero = 0
-sum_to g (suc n) = g n + sum_to g n
-
 sum_ge : (g : ℕ → ℕ) (n i : ℕ) → i < n → g i ≤ sum_to g n
-unfolding sum_to
 sum_ge g zero i h = absurd (not-suc-le-zero h)
 sum_ge g (suc n) i h =
     ⊎_elim (λ (e : i ≡ n). let q = ap g e in omega (arith, q)) (λ (o : i ≢ n). let r = sum_ge g n i (omega arith) in omega (arith, r)) (cases_eq i n)
@@ -72,9 +71,6 @@ rise t (suc n) i = rise t n (par t i)
 rises : (t : Table) {i : ℕ} {xs : List ℕ} → Up t i xs → (n : ℕ) × (eqb (rise t n i) t.root ≡ true)
 rises t top = (0, eq-eqb t.root t.root refl)
 rises t (step i xs u n w) = let r = rises t w in (suc r.0, r.1)
-
-entry_blank : (e : Entry) → e.item ≡ 0 → e.parent ≡ 0 → e.uses ≡ 0 → e.below ≡ 0 → e.held ≡ false → e ≡ blank
-entry_blank e a b c d f = λ k. record { item = a k; parent = b k; uses = c k; below = d k; held = f k }
 
 module _ (t : Table) (z : ∥ Sound 0 t ∥₁) where
   root_is : par t t.root ≡ t.root
@@ -125,8 +121,8 @@ module _ (t : Table) (z : ∥ Sound 0 t ∥₁) where
 
   young : (i : ℕ) → age i ≤ sum_to age slot_count
   young i = ⊎_elim
-      (λ (u : 0 < par t i). let w = within t.entries i u in let s = size_is in sum_ge age slot_count i (omega (arith, w, s)))
-      (λ (e : par t i ≡ 0). let a = age_none i e in omega (arith, a))
+      (λ (u : 0 < par t i). sum_ge age slot_count i (rw size_is at (within t.entries i u)))
+      (λ (e : par t i ≡ 0). subst (λ (a : ℕ). a ≤ sum_to age slot_count) (sym (age_none i e)) (zero_le _))
       (pos_cases (par t i))
 
   pub sound_out : Sound 0 t
@@ -151,7 +147,6 @@ module _ (t : Table) (z : ∥ Sound 0 t ∥₁) where
       few_root = le_out (uses_of t t.root) (ways + 1) (∥∥₁_map z (λ S. S.shape.few_root));
     };
     size = size_is;
-    room = eq_out (length t.spare) slot_count (∥∥₁_map z (λ S. S.room));
     spares = λ k h. (
       le_out 1 (free t k) (∥∥₁_map z (λ S. (S.spares k h).0)),
       le_out (suc (free t k)) slot_count (∥∥₁_map z (λ S. (S.spares k h).1)),
@@ -161,5 +156,5 @@ module _ (t : Table) (z : ∥ Sound 0 t ∥₁) where
           (bool_out _ _ (∥∥₁_map z (λ S. ap (λ (e : Entry). e.held) (S.spares k h).2))),
     );
     spares_apart = λ j k hj hk e. eq_out j k (∥∥₁_map z (λ S. S.spares_apart j k hj hk e));
-    filled = eq_out (t.left + total counts_used 0 t.entries) (capacity + 1) (∥∥₁_map z (λ S. S.filled));
+    filled = eq_out (left t + total counts_used 0 t.entries) (capacity + 1) (∥∥₁_map z (λ S. S.filled));
   }

@@ -1,13 +1,17 @@
 -- Where the root has another count of children than one, or is held, no item begins every held path.
-use Rattle.std.proofs.Common.{◌≡◌, ℕ, suc, ◌+◌, ◌<◌, true, cond, eqb, ◌≢◌, ◌⊎◌, List, [], ◌∷◌, ◌++◌, length, sym, refl, ap, ◌∙◌, subst, inl, inr, arith, length-append}
+use Rattle.std.proofs.Common.{◌≡◌, ℕ, suc, ◌+◌, ◌-◌, ◌<◌, true, cond, eqb, ◌≢◌, ◌⊎◌, List, [], ◌∷◌, ◌++◌, length, sym, refl, ap, ◌∙◌, subst, inl, inr, arith, length-append}
 use Rattle.std.proofs.lemmas.Bool.Decides.{nat_tests}
 use Rattle.tree.specs.declared.table.Entry.{Entry}
 use Rattle.tree.specs.declared.table.Table.{Table}
+use Rattle.tree.specs.declared.table.Next.{Next}
+use Rattle.tree.specs.declared.table.Next.TheVariants.{Nothing, Only, Several}
+use Rattle.tree.specs.Next.{Stands}
 use Rattle.tree.specs.Records.{at, blank}
-use Rattle.tree.specs.Sound.{total, kid, par, item_of, uses_of, held_of, Sound, Up, top, step, UpShares}
+use Rattle.tree.specs.Sound.{total, kid, par, item_of, uses_of, held_of, Sound, Up, top, step}
+use Rattle.tree.proofs.Moves.{UpShares}
 use Rattle.tree.proofs.Totals.{two, two_first, two_second, two_other, total_two, within}
 use Rattle.tree.proofs.Loose.{root_used}
-use Rattle.tree.proofs.Counting.{some_kid, strip, descend, path, path_up}
+use Rattle.tree.proofs.Counting.{head, some_kid, strip, descend, path, path_up}
 
 abbrev last_of : List ℕ → ℕ
 last_of [] = 0
@@ -37,10 +41,6 @@ module _ (t : Table) (S : Sound 0 t) where
   child_of_root top x e = absurd (let l = ap length e in omega (arith, l))
   child_of_root (step c xs u n w) x e = (n, no_items w (let l = ap length e in omega (arith, l)), ap head e)
     where
-      head : List ℕ → ℕ
-      head [] = 0
-      head (y ∷ ys) = y
-
       no_items : {j : ℕ} {ys : List ℕ} → Up t j ys → length ys ≡ 0 → j ≡ r
       no_items top z = refl
       no_items (step j ys u n w) z = absurd (omega (arith, z))
@@ -77,3 +77,9 @@ module _ (t : Table) (S : Sound 0 t) where
       let g = s f.0 _ f.2 f.3 in
       let same : item_of t d ≡ x = sym (last_snoc f.1 (item_of t d)) ∙ ap last_of g.1 ∙ last_snoc g.0 x in
       o.2 (S.shape.apart d a.0 du o.1 c.0 (o.3 ∙ sym c.1) (same ∙ sym c.2))
+
+-- a count of children, less the root itself, that does not tell of one child
+pub not_two : (u b : ℕ) (n : Next) → Stands (u - 1) b n → ((c : ℕ) → n ≡ Only c → ⊥) → u ≢ 2
+not_two u b Nothing s f e = omega (arith, s, e)
+not_two u b (Only c) s f e = f c refl
+not_two u b Several s f e = omega (arith, s, e)

@@ -1,13 +1,17 @@
 -- Freeing an entry that nothing uses keeps a tree sound, but that its parent may now be unused, and every other path.
-use Rattle.tree.specs.Limits.{slot_count}
-use Rattle.std.proofs.Common.{◌≡◌, ℕ, ◌+◌, ◌<◌, ◌≤◌, false, cond, eqb, ◌≢◌, List, ◌∷◌, length, sym, refl, ap, ◌∙◌, subst, ⊎_elim, arith, length-set, get_or-set_other, get_or-set_same}
+use Rattle.tree.specs.Limits.{capacity, slot_count}
+use Rattle.std.proofs.Common.{◌≡◌, ℕ, ◌+◌, ◌<◌, ◌≤◌, cond, eqb, ◌≢◌, List, [], ◌∷◌, length, set, sym, refl, ap, ◌∙◌, subst, ⊎_elim, arith, length-append, get_or-set_other}
+use Rattle.std.proofs.Math.ListN.{get_or-append}
+use Rattle.std.proofs.Math.Seq.{get_or-append_seam}
 use Rattle.std.proofs.lemmas.Bool.{cases_eq, ne_eqb}
 use Rattle.std.proofs.lemmas.Bool.Decides.{nat_tests}
 use Rattle.tree.specs.declared.table.Entry.{Entry}
 use Rattle.tree.specs.declared.table.Table.{Table}
-use Rattle.tree.specs.Records.{at, blank, slimmer, shed}
-use Rattle.tree.specs.Sound.{total, kid, kid_slot, counts_used, par, item_of, uses_of, below_of, held_of, free, kids, kid_slots, Sound, Up, top, step, Pruning}
+use Rattle.tree.specs.Records.{at, blank, slimmer, vacated, shed}
+use Rattle.tree.specs.Sound.{total, kid, kid_slot, counts_used, par, item_of, uses_of, below_of, held_of, left, free, kids, kid_slots, Sound, Idle, Up, top, step}
+use Rattle.tree.proofs.Moves.{Pruning}
 use Rattle.tree.proofs.Totals.{two_first, two_second, two_other, two_length, total_two, no_kid, no_slots, within}
+use Rattle.tree.proofs.Loose.{some_used}
 use Rattle.tree.proofs.Shed.{shed_shape}
 
 -- a sum over the children of l, where the one at j was under p and is now free
@@ -17,7 +21,13 @@ less_at K K' a p q w v e z h = grind (arith, nat_tests)
 less_off : (K K' a p l q w v : ℕ) → K' + cond (eqb a l) w 0 + q ≡ K + cond (eqb 0 l) v 0 + q → a ≡ p → 0 < l → l ≢ p → K' ≡ K
 less_off K K' a p l q w v e z h n = grind (arith, nat_tests)
 
-module _ (t : Table) (j : ℕ) (S : Sound j t) (used : 0 < par t j) (idle : uses_of t j ≡ 0) where
+module _ {t : Table} {j : ℕ} (I : Idle t j) where
+  abbrev S : Sound j t
+  S = I.sound
+
+  abbrev used : 0 < par t j
+  used = I.used
+
   abbrev p : ℕ
   p = par t j
 
@@ -34,12 +44,12 @@ module _ (t : Table) (j : ℕ) (S : Sound j t) (used : 0 < par t j) (idle : uses
   p_in = within t.entries p (S.shape.parents j used)
 
   kids0 : kids t j ≡ 0
-  kids0 = sym (S.shape.uses j j0) ∙ idle
+  kids0 = sym (S.shape.uses j j0) ∙ I.childless
 
-  pub childless : (i : ℕ) → par t i ≡ j → ⊥
+  childless : (i : ℕ) → par t i ≡ j → ⊥
   childless i e = no_kid j 0 t.entries kids0 i (within t.entries i (rw e j0)) e
 
-  pub p≢j : p ≢ j
+  p≢j : p ≢ j
   p≢j = childless j
 
   j≢p : j ≢ p
@@ -79,22 +89,22 @@ module _ (t : Table) (j : ℕ) (S : Sound j t) (used : 0 < par t j) (idle : uses
   sums : (f : ℕ → Entry → ℕ) → total f 0 t'.entries + f j (at t.entries j) + f p (at t.entries p) ≡ total f 0 t.entries + f j blank + f p up
   sums f = total_two f t.entries j blank p up j_in p_in p≢j
 
-  left_room : t.left < slot_count
-  left_room = let f = S.filled in omega arith
+  more : left t' ≡ left t + 1
+  more = length-append t.spare.items (j ∷ [])
 
-  spare_new : free t' t.left ≡ j
-  spare_new = get_or-set_same t.spare t.left j 0 (rw S.room left_room)
+  spare_new : free t' (left t) ≡ j
+  spare_new = get_or-append_seam t.spare.items j [] 0
 
-  spare_old : (k : ℕ) → k ≢ t.left → free t' k ≡ free t k
-  spare_old k n = get_or-set_other t.spare t.left k j 0 n
+  spare_old : (k : ℕ) → k < left t → free t' k ≡ free t k
+  spare_old k h = get_or-append t.spare.items (j ∷ []) 0 k h
 
-  spare_not_j : (k : ℕ) → k < t.left → free t k ≢ j
+  spare_not_j : (k : ℕ) → k < left t → free t k ≢ j
   spare_not_j k h e = let z = ap (λ (e : Entry). e.parent) (S.spares k h).2 in let w = ap (par t) e in omega (arith, w, z)
 
-  pub shed_sound : Sound p t'
+  shed_sound : Sound p t'
   shed_sound = record {
     shape = shed_shape t.root j p (par t) (par t') (item_of t) (item_of t') (uses_of t) (uses_of t') (below_of t) (below_of t') (kids t) (kids t') (kid_slots t) (kid_slots t') (held_of t) (held_of t')
-        S.shape.none S.shape.root_up refl used j≢root idle childless
+        S.shape.none S.shape.root_up refl used j≢root I.childless childless
         (ap (λ (e : Entry). e.parent) at_j) par_o
         item_o
         (ap (λ (e : Entry). e.held) at_j) held_o
@@ -104,25 +114,27 @@ module _ (t : Table) (j : ℕ) (S : Sound j t) (used : 0 < par t j) (idle : uses
         (less_at _ _ _ _ _ _ _ (sums (kid_slot p)) refl used) (λ i h n. less_off _ _ _ _ _ _ _ _ (sums (kid_slot i)) refl h n)
         S.shape.parents S.shape;
     size = two_length t.entries j blank p up ∙ S.size;
-    room = length-set t.spare t.left j ∙ S.room;
     spares = spare_in;
     spares_apart = spare_apart;
-    filled = let e = sums counts_used in let a = ne_eqb p 0 (λ z. omega (arith, used)) in let e2 = rw a at e in omega (arith, e2, S.filled);
+    filled = let e = sums counts_used in let a = ne_eqb p 0 (λ z. omega (arith, used)) in let e2 = rw a at e in let m = more in omega (arith, e2, S.filled, m);
   }
     where
-      spare_in : (k : ℕ) → k < t'.left → (0 < free t' k) × (free t' k < slot_count) × (at t'.entries (free t' k) ≡ blank)
+      spare_in : (k : ℕ) → k < left t' → (0 < free t' k) × (free t' k < slot_count) × (at t'.entries (free t' k) ≡ blank)
       spare_in k h =
-          ⊎_elim (λ (e : k ≡ t.left). rw (e, spare_new) (j0, rw S.size at j_in, at_j))
-          (λ (n : k ≢ t.left).
-          let l : k < t.left = omega arith in
+          ⊎_elim (λ (e : k ≡ left t). rw (e, spare_new) (j0, rw S.size at j_in, at_j))
+          (λ (n : k ≢ left t).
+          let l : k < left t = let m = more in omega (arith, m) in
           let q = S.spares k l in
           let np : free t k ≢ p = λ e. let w = ap (par t) e in let z = ap (λ (e : Entry). e.parent) q.2 in let u = S.shape.parents j used in omega (arith, w, z, u) in
-          rw (spare_old k n) (q.0, q.1, at_o (free t k) (spare_not_j k l) np ∙ q.2)) (cases_eq k t.left)
+          rw (spare_old k l) (q.0, q.1, at_o (free t k) (spare_not_j k l) np ∙ q.2)) (cases_eq k (left t))
 
-      spare_apart : (k l : ℕ) → k < t'.left → l < t'.left → free t' k ≡ free t' l → k ≡ l
+      before : (k : ℕ) → k < left t' → k ≢ left t → k < left t
+      before k h n = let m = more in omega (arith, m)
+
+      spare_apart : (k l : ℕ) → k < left t' → l < left t' → free t' k ≡ free t' l → k ≡ l
       spare_apart k l hk hl e =
-          ⊎_elim (λ (a : k ≡ t.left). ⊎_elim (λ (b : l ≡ t.left). a ∙ sym b) (λ (b : l ≢ t.left). absurd (spare_not_j l (omega arith) (sym (spare_old l b) ∙ sym e ∙ ap (free t') a ∙ spare_new))) (cases_eq l t.left))
-          (λ (a : k ≢ t.left). ⊎_elim (λ (b : l ≡ t.left). absurd (spare_not_j k (omega arith) (sym (spare_old k a) ∙ e ∙ ap (free t') b ∙ spare_new))) (λ (b : l ≢ t.left). S.spares_apart k l (omega arith) (omega arith) (sym (spare_old k a) ∙ e ∙ spare_old l b)) (cases_eq l t.left)) (cases_eq k t.left)
+          ⊎_elim (λ (a : k ≡ left t). ⊎_elim (λ (b : l ≡ left t). a ∙ sym b) (λ (b : l ≢ left t). let y = before l hl b in absurd (spare_not_j l y (sym (spare_old l y) ∙ sym e ∙ ap (free t') a ∙ spare_new))) (cases_eq l (left t)))
+          (λ (a : k ≢ left t). let x = before k hk a in ⊎_elim (λ (b : l ≡ left t). absurd (spare_not_j k x (sym (spare_old k x) ∙ e ∙ ap (free t') b ∙ spare_new))) (λ (b : l ≢ left t). let y = before l hl b in S.spares_apart k l x y (sym (spare_old k x) ∙ e ∙ spare_old l y)) (cases_eq l (left t))) (cases_eq k (left t))
 
   pub shed_path : {i : ℕ} {xs : List ℕ} → Up t i xs → i ≢ j → Up t' i xs
   shed_path top o = top
@@ -142,26 +154,33 @@ module _ (t : Table) (j : ℕ) (S : Sound j t) (used : 0 < par t j) (idle : uses
       let k = less_at _ _ _ _ _ _ _ e refl used in
       omega (arith, k, S.shape.below p used)
 
-  pub shed_left : t.left < slot_count
-  shed_left = left_room
+  pub shed_room : left t < capacity
+  shed_room = let f = shed_sound.filled in let u = some_used p t' shed_sound in let m = more in omega (arith, f, u, m)
 
-  pub shed_parent : p < slot_count
-  shed_parent = rw S.size at p_in
+  j_loose : (k : ℕ) → held_of t' k ≡ held_of t k
+  j_loose k = ⊎_elim (λ (e : k ≡ j). ap (held_of t') e ∙ ap (λ (e : Entry). e.held) at_j ∙ sym I.loose ∙ sym (ap (held_of t) e)) (held_o k) (cases_eq k j)
 
-  j_loose : held_of t j ≡ false → (k : ℕ) → held_of t' k ≡ held_of t k
-  j_loose h k = ⊎_elim (λ (e : k ≡ j). ap (held_of t') e ∙ ap (λ (e : Entry). e.held) at_j ∙ sym h ∙ sym (ap (held_of t) e)) (held_o k) (cases_eq k j)
-
-  pub shed_pruning : (t0 : Table) → Pruning t0 j t → held_of t j ≡ false → Pruning t0 p t'
-  shed_pruning t0 R h = record {
+  shed_pruning : (t0 : Table) → Pruning t0 j t → Pruning t0 p t'
+  shed_pruning t0 R = record {
     sound = shed_sound;
     used = rw (par_o p p≢j) (S.shape.parents j used);
-    room = let r = R.room in omega (arith, r);
+    room = let r = R.room in let m = more in omega (arith, r, m);
     root = R.root;
-    holders = λ k. j_loose h k ∙ R.holders k;
+    holders = λ k. j_loose k ∙ R.holders k;
     paths = λ k xs w u.
         let n : k ≢ j = λ e. let z = ap (λ (e : Entry). e.parent) at_j in let y = ap (par t') e in omega (arith, u, y, z) in
         shed_path (R.paths k xs w (rw (par_o k n) at u)) n;
   }
 
-pub pruning_as : (t0 : Table) (p r : ℕ) (t' t2 : Table) → Pruning t0 p t' → r ≡ p → t2 ≡ t' → Pruning t0 r t2
-pruning_as t0 p r t' t2 a e f = subst (λ v. Pruning t0 r v) (sym f) (subst (λ u. Pruning t0 u t') (sym e) a)
+  -- what `shed` writes
+  pub up_kept : (e : Entry) (u : Table) → e ≡ at t.entries j → u ≡ vacated t j → at u.entries e.parent ≡ at t.entries p
+  up_kept e u k w = ap (λ (v : Table). at v.entries e.parent) w ∙ ap (λ (y : Entry). at (vacated t j).entries y.parent) k ∙ get_or-set_other t.entries j p blank blank p≢j
+
+  pub as_written : (e f : Entry) (u : Table) → e ≡ at t.entries j → u ≡ vacated t j → f ≡ slimmer (at u.entries e.parent) j
+      → record { entries = set u.entries e.parent f; spare = u.spare; root = u.root } ≡ shed t j
+  as_written e f u k w m =
+      let n = m ∙ ap (λ (y : Entry). slimmer y j) (up_kept e u k w) in
+      λ i. record { entries = set (w i).entries (k i).parent (n i); spare = (w i).spare; root = (w i).root }
+
+  pub pruning_as : (t0 : Table) → Pruning t0 j t → (r : ℕ) (u : Table) → r ≡ p → u ≡ shed t j → Pruning t0 r u
+  pruning_as t0 R r u e f = subst (λ v. Pruning t0 r v) (sym f) (subst (λ q. Pruning t0 q t') (sym e) (shed_pruning t0 R))

@@ -1,12 +1,14 @@
 -- The tree of the empty path alone is sound.
 use Rattle.tree.specs.Limits.{capacity, reserved, slot_count, first_slot}
-use Rattle.std.proofs.Common.{◌≡◌, ℕ, zero, suc, ◌+◌, ◌<◌, true, false, cond, eqb, ◌≢◌, List, length, get_or, set, replicate, sym, refl, ap, ◌∙◌, inr, ⊎_elim, arith, length-set, get_or-set_other, get_or-set_same}
+use Rattle.std.proofs.Common.{◌≡◌, ℕ, zero, suc, ◌+◌, ◌<◌, true, false, cond, eqb, ◌≢◌, List, length, get_or, set, replicate, sym, refl, ap, ◌∙◌, subst, inr, ⊎_elim, arith, length-set, get_or-set_other, get_or-set_same}
 use lib.ListN.{length-replicate}
 use Rattle.std.proofs.lemmas.Bool.{cases_eq, eq-eqb, ne_eqb, both_ways}
 use Rattle.tree.specs.declared.table.Entry.{Entry}
 use Rattle.tree.specs.declared.table.Table.{Table}
-use Rattle.tree.specs.Records.{at, blank, first_entry}
-use Rattle.tree.specs.Sound.{total, kid, kid_slot, counts_used, par, uses_of, below_of, held_of, kids, kid_slots, top, Fresh}
+use Rattle.tree.specs.Records.{at, blank, wider}
+use Rattle.tree.specs.Sound.{total, kid, kid_slot, counts_used, par, uses_of, below_of, held_of, kids, kid_slots, top}
+use Rattle.tree.proofs.Steps.{first_entry, IsDefault, default_blank}
+use Rattle.tree.proofs.Moves.{Fresh}
 use Rattle.tree.proofs.Totals.{total_set}
 
 pub total_blank : (f : ℕ → Entry → ℕ) → ((k : ℕ) → f k blank ≡ 0) → (k n : ℕ) → total f k (replicate n blank) ≡ 0
@@ -21,9 +23,9 @@ at_blank (suc n) (suc i) = at_blank n i
 
 module _ (es : List Entry) (size : length es ≡ slot_count) (blanks : (i : ℕ) → at es i ≡ blank)
     (none : (f : ℕ → Entry → ℕ) → ((k : ℕ) → f k blank ≡ 0) → total f 0 es ≡ 0)
-    (sl : List ℕ) (room : length sl ≡ slot_count) (slots_are : (k : ℕ) → k < capacity → get_or sl k 0 ≡ k + reserved) where
+    (sl : List ℕ) (room : length sl ≡ capacity) (slots_are : (k : ℕ) → k < capacity → get_or sl k 0 ≡ k + reserved) where
   abbrev t : Table
-  t = record { entries = set es first_slot first_entry; spare = sl; left = capacity; root = first_slot }
+  t = record { entries = set es first_slot first_entry; spare = record { items = sl }; root = first_slot }
 
   at_1 : at t.entries 1 ≡ first_entry
   at_1 = get_or-set_same es 1 first_entry blank (omega arith)
@@ -87,17 +89,24 @@ module _ (es : List Entry) (size : length es ≡ slot_count) (blanks : (i : ℕ)
         few_root = let a = ap (λ (y : Entry). y.uses) at_1 in omega (arith, a);
       };
       size = length-set es 1 first_entry ∙ size;
-      room = room;
-      spares = λ k h. let e = slots_are k h in (omega (arith, e), omega (arith, e), at_o (get_or sl k 0) (λ z. omega (arith, e)));
-      spares_apart = λ j k hj hk e. let a = slots_are j hj in let b = slots_are k hk in omega (arith, a, b);
-      filled = let s = sums counts_used (λ k. refl) in omega (arith, s);
+      spares = λ k h. let e = slots_are k (omega (arith, room)) in (omega (arith, e), omega (arith, e), at_o (get_or sl k 0) (λ z. omega (arith, e)));
+      spares_apart = λ j k hj hk e. let a = slots_are j (omega (arith, room)) in let b = slots_are k (omega (arith, room)) in omega (arith, a, b);
+      filled = let s = sums counts_used (λ k. refl) in omega (arith, s, room);
     };
     root = refl;
     path = top;
     held = held_1;
     holders = held_o;
-    alone = refl;
+    alone = room;
   }
 
-pub started : (sl : List ℕ) → length sl ≡ slot_count → ((k : ℕ) → k < capacity → get_or sl k 0 ≡ k + reserved) → Fresh (record { entries = set (replicate slot_count blank) first_slot first_entry; spare = sl; left = capacity; root = first_slot })
+started : (sl : List ℕ) → length sl ≡ capacity → ((k : ℕ) → k < capacity → get_or sl k 0 ≡ k + reserved) → Fresh (record { entries = set (replicate slot_count blank) first_slot first_entry; spare = record { items = sl }; root = first_slot })
 started sl r h = start (replicate slot_count blank) (length-replicate slot_count blank) (at_blank slot_count) (λ f z. total_blank f z 0 slot_count) sl r h
+
+-- what `new` writes
+pub started_as : (b d e : Entry) (sl : List ℕ) → length sl ≡ capacity → ((k : ℕ) → k < capacity → get_or sl k 0 ≡ k + reserved) → IsDefault b → IsDefault d → e ≡ wider d first_slot
+    → Fresh (record { entries = set (replicate slot_count b) first_slot (record { item = e.item; parent = first_slot; uses = e.uses; below = e.below; held = true }); spare = record { items = sl }; root = first_slot })
+started_as b d e sl r h i j k =
+    let m = k ∙ ap (λ (y : Entry). wider y first_slot) (default_blank d j) in
+    subst (λ (y : Entry). Fresh (record { entries = set (replicate slot_count b) first_slot (record { item = y.item; parent = first_slot; uses = y.uses; below = y.below; held = true }); spare = record { items = sl }; root = first_slot })) (sym m)
+    (subst (λ (y : Entry). Fresh (record { entries = set (replicate slot_count y) first_slot first_entry; spare = record { items = sl }; root = first_slot })) (sym (default_blank b i)) (started sl r h))

@@ -4,7 +4,7 @@ use Rattle.tree.specs.declared.refusal.Refusal.{Refusal}
 use Rattle.tree.specs.declared.refusal.Refusal.TheVariants.{NotHeld, Full, Present, Forked}
 use Rattle.tree.specs.declared.paths.PathTree.{PathTree}
 use Rattle.tree.specs.Limits.{capacity, slot_count, first_slot}
-use Rattle.tree.specs.Sound.{held_of, Up}
+use Rattle.tree.specs.Sound.{held_of, left, Up}
 use Rattle.tree.specs.Prefixes.{Counts}
 
 -- slot i is held, and its path is xs
@@ -22,7 +22,7 @@ Unheld t i = (xs : List ℕ) → Held t i xs → ⊥
 
 -- how many more entries there is room for
 abbrev pub room : PathTree → ℕ
-room t = t.table.left
+room t = left t.table
 
 -- t' is t, unchanged
 abbrev pub Same : PathTree → PathTree → Type 0

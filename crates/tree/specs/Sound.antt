@@ -1,6 +1,6 @@
 -- The table under a path tree, and what always holds of it.
-use Rattle.tree.specs.Limits.{capacity, slot_count, ways, first_slot}
-use Rattle.std.specs.Prelude.{◌≡◌, ℕ, suc, ◌+◌, ◌<◌, ◌≤◌, Bool, true, false, cond, ◌≢◌, ◌⊎◌, List, [], ◌∷◌, ◌++◌, length, Some, None, Option, ◌==◌, slice_index}
+use Rattle.tree.specs.Limits.{capacity, slot_count, ways}
+use Rattle.std.specs.Prelude.{◌≡◌, ℕ, suc, ◌+◌, ◌<◌, ◌≤◌, Bool, true, false, cond, ◌≢◌, ◌⊎◌, List, [], ◌∷◌, length, ◌==◌, slice_index}
 use Rattle.tree.specs.declared.table.Entry.{Entry}
 use Rattle.tree.specs.declared.table.Table.{Table}
 use Rattle.tree.specs.Records.{at, blank}
@@ -40,9 +40,13 @@ below_of t i = (at t.entries i).below
 abbrev pub held_of : Table → ℕ → Bool
 held_of t i = (at t.entries i).held
 
+-- how many slots are free
+abbrev pub left : Table → ℕ
+left t = length t.spare.items
+
 -- the free slot at place k of the list of free slots
 abbrev pub free : Table → ℕ → ℕ
-free t k = slice_index t.spare k
+free t k = slice_index t.spare.items k
 
 -- how many entries have slot i as their parent
 abbrev pub kids : Table → ℕ → ℕ
@@ -53,10 +57,6 @@ abbrev pub kid_slots : Table → ℕ → ℕ
 kid_slots t i = total (kid_slot i) 0 t.entries
 
 -- ---- what always holds
-
--- how many entries have a root with one child as their parent: the root itself and that child
-abbrev pub root_and_child : ℕ
-root_and_child = 2
 
 -- What holds of the entries, by slot: parent P, item I, use count U, sum B, and H whether it is held.
 -- K and T are the count and the sum of the slots of the entries that have a slot as their parent.
@@ -88,82 +88,28 @@ pub record Shape (x root : ℕ) (P I U B K T : ℕ → ℕ) (H : ℕ → Bool) :
 pub record Sound (x : ℕ) (t : Table) : Type 0 where
   pub shape : Shape x t.root (par t) (item_of t) (uses_of t) (below_of t) (kids t) (kid_slots t) (held_of t)
   pub size : length t.entries ≡ slot_count
-  pub room : length t.spare ≡ slot_count
   -- the free slots are slots, free, and listed once
-  pub spares : (k : ℕ) → k < t.left → (0 < free t k) × (free t k < slot_count) × (at t.entries (free t k) ≡ blank)
-  pub spares_apart : (j k : ℕ) → j < t.left → k < t.left → free t j ≡ free t k → j ≡ k
+  pub spares : (k : ℕ) → k < left t → (0 < free t k) × (free t k < slot_count) × (at t.entries (free t k) ≡ blank)
+  pub spares_apart : (j k : ℕ) → j < left t → k < left t → free t j ≡ free t k → j ≡ k
   -- every slot but slot 0 is free or in use; the root is in use too
-  pub filled : t.left + total counts_used 0 t.entries ≡ capacity + 1
+  pub filled : left t + total counts_used 0 t.entries ≡ capacity + 1
+
+-- what holds of a table whose entry j, in use, has no child and is not held
+pub record Idle (t : Table) (j : ℕ) : Type 0 where
+  pub sound : Sound j t
+  pub used : 0 < par t j
+  pub childless : uses_of t j ≡ 0
+  pub loose : held_of t j ≡ false
 
 -- the items from entry i up to the root
 pub data Up (t : Table) : ℕ → List ℕ → Type 0 where
   top : Up t t.root []
   step : (i : ℕ) (xs : List ℕ) → 0 < par t i → i ≢ t.root → Up t (par t i) xs → Up t i (item_of t i ∷ xs)
 
--- ---- what the moves on a table do
-
--- r is a new entry of t', held, under p and with item x
-pub record Grew (t : Table) (p x r : ℕ) (t' : Table) : Type 0 where
-  pub sound : Sound 0 t'
-  pub root : t'.root ≡ t.root
-  pub left : t'.left + 1 ≡ t.left
-  pub fresh : par t r ≡ 0
-  pub path : (xs : List ℕ) → Up t p xs → Up t' r (x ∷ xs)
-  pub paths : (i : ℕ) (xs : List ℕ) → Up t i xs → Up t' i xs
-  pub held : held_of t' r ≡ true
-  pub holders : (i : ℕ) → i ≢ r → held_of t' i ≡ held_of t i
-
--- the holder of i is gone; what is still in use has its path
-pub record LetGo (t : Table) (i : ℕ) (t' : Table) : Type 0 where
-  pub sound : Sound 0 t'
-  pub room : t.left ≤ t'.left
-  pub root : t'.root ≡ t.root
-  pub loose : held_of t' i ≡ false
-  pub holders : (k : ℕ) → k ≢ i → held_of t' k ≡ held_of t k
-  pub paths : (k : ℕ) (xs : List ℕ) → Up t k xs → 0 < par t' k → Up t' k xs
-
--- t' is t with unused entries taken out, where j may still be unused
-pub record Pruning (t : Table) (j : ℕ) (t' : Table) : Type 0 where
-  pub sound : Sound j t'
-  pub used : 0 < par t' j
-  pub room : t.left ≤ t'.left
-  pub root : t'.root ≡ t.root
-  pub holders : (k : ℕ) → held_of t' k ≡ held_of t k
-  pub paths : (k : ℕ) (xs : List ℕ) → Up t k xs → 0 < par t' k → Up t' k xs
-
 -- t' is t with all unused entries taken out
 pub record Pruned (t t' : Table) : Type 0 where
   pub sound : Sound 0 t'
-  pub room : t.left ≤ t'.left
+  pub room : left t ≤ left t'
   pub root : t'.root ≡ t.root
   pub holders : (k : ℕ) → held_of t' k ≡ held_of t k
   pub paths : (k : ℕ) (xs : List ℕ) → Up t k xs → 0 < par t' k → Up t' k xs
-
--- every held path begins with x; the lists here run from the far end
-abbrev pub UpShares : Table → ℕ → Type 0
-UpShares t x = (i : ℕ) (xs : List ℕ) → held_of t i ≡ true → Up t i xs → (ys : List ℕ) × (xs ≡ ys ++ (x ∷ []))
-
--- the paths after the item x came off the front of each
-pub record Shifted (t : Table) (x : ℕ) (t' : Table) : Type 0 where
-  pub sound : Sound 0 t'
-  pub shared : UpShares t x
-  pub slot : ℕ
-  pub some : held_of t slot ≡ true
-  pub empty : held_of t t.root ≡ false
-  pub left : t'.left ≡ t.left + 1
-  pub held : (i : ℕ) → held_of t' i ≡ held_of t i
-  pub paths : (i : ℕ) (xs : List ℕ) → Up t i xs → i ≢ t.root → (ys : List ℕ) × (xs ≡ ys ++ (x ∷ [])) × Up t' i ys
-
--- the first item is taken off, or no item begins every held path
-abbrev pub Popped : Table → Option ℕ → Table → Type 0
-Popped t (Some x) t' = Shifted t x t'
-Popped t None t' = (t' ≡ t) × ((i x : ℕ) → held_of t i ≡ true → UpShares t x → ⊥)
-
--- a tree of the empty path alone
-pub record Fresh (t : Table) : Type 0 where
-  pub sound : Sound 0 t
-  pub root : t.root ≡ first_slot
-  pub path : Up t t.root []
-  pub held : held_of t t.root ≡ true
-  pub holders : (i : ℕ) → i ≢ t.root → held_of t i ≡ false
-  pub alone : t.left ≡ capacity

@@ -1,4 +1,4 @@
-// How many items a tree has room for. The specs have the same numbers in Limits.
+// How many items a tree has room for. The specs have the same numbers in Limits, so that an edit of one alone is refused.
 
 // What a tree may count between two steps of a run.
 pub const COUNTABLE: usize = 2048;

@@ -20,9 +20,9 @@ fn round(tree: &mut PathTree, at: u16, item: u32) -> Result<u16, Refusal> {
     let end = tree.add(two, item)?;
     tree.release(two)?;
     tree.release(one)?;
-    let _ = tree.take_first();
-    let _ = tree.take_first();
-    let _ = tree.take_first();
+    for _ in 0..3 {
+        tree.take_first();
+    }
     Ok(end)
 }
 

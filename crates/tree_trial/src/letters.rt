@@ -2,12 +2,25 @@ use tree::limits::{CAPACITY, FIRST_SLOT};
 use tree::paths::PathTree;
 use tree::refusal::Refusal;
 
-// A first branch, a second branch, and the letter a read.
+// A first branch, a second branch, and the letter a read. A tree holds numbers, whatever they mean.
 const FIRST: u32 = 0;
 
 const SECOND: u32 = 1;
 
 const READ_A: u32 = 99;
+
+// Why a tree did not grow as it should.
+#[derive(Clone, Copy, Debug)]
+pub(crate) enum Failure {
+    Refused(Refusal),
+    BeganAlike,
+}
+
+impl From<Refusal> for Failure {
+    fn from(refusal: Refusal) -> Failure {
+        Failure::Refused(refusal)
+    }
+}
 
 // The two walks of one side: before another a, and past the star.
 #[derive(Clone, Copy)]
@@ -32,8 +45,8 @@ fn read(tree: &mut PathTree, side: Side) -> Result<Side, Refusal> {
     star(tree, at)
 }
 
-// What the tree of 'a star b or a star c' counts after that many letters a; 0 if its paths began alike.
-pub(crate) fn grow(letters: u32) -> Result<usize, Refusal> {
+// What the tree of 'a star b or a star c' counts after that many letters a.
+pub(crate) fn grow(letters: u32) -> Result<usize, Failure> {
     let mut tree = PathTree::new();
     let one = tree.add(FIRST_SLOT, FIRST)?;
     let mut left = star(&mut tree, one)?;
@@ -45,7 +58,7 @@ pub(crate) fn grow(letters: u32) -> Result<usize, Refusal> {
         right = read(&mut tree, right)?;
     }
     match tree.take_first() {
-        Some(_) => Ok(0),
+        Some(_) => Err(Failure::BeganAlike),
         None => Ok(tree.count()),
     }
 }

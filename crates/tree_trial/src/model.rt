@@ -1,118 +1,97 @@
+use indexmap::IndexMap;
 use std::alloc::{AllocError, Global};
+use std::collections::BTreeSet;
+use tree::limits::FIRST_SLOT;
 use tree::refusal::Refusal;
 
-// A holder: its slot and its path.
+// What a tree should hold: the path of each held slot. The order of the slots decides which are drawn.
 #[derive(Drop)]
-pub struct Kept {
-    pub slot: u16,
-    pub path: Vec<u32>,
-}
-
-// The path that `slot` holds.
-pub(crate) fn path_of(kept: &Vec<Kept>, slot: u16) -> Option<&Vec<u32>> {
-    for k in kept {
-        if k.slot == slot {
-            return Some(&k.path);
-        }
-    }
-    None
-}
-
-// The different items with which held paths go on after `path`.
-fn after(heap: Global, kept: &Vec<Kept>, path: &[u32]) -> Result<Vec<u32>, AllocError> {
-    let mut items = Vec::new(heap);
-    for k in kept {
-        if k.path.as_slice().starts_with(path) {
-            if let Some(x) = k.path.get(path.len()) {
-                if !items.as_slice().contains(x) {
-                    items.push(*x)?;
-                }
-            }
-        }
-    }
-    Ok(items)
-}
-
-// Why `item` may not be added under `slot`, if it may not. There is always room here.
-pub(crate) fn bar(
+pub(crate) struct Model {
     heap: Global,
-    kept: &Vec<Kept>,
-    slot: u16,
-    item: u32,
-) -> Result<Option<Refusal>, AllocError> {
-    let Some(path) = path_of(kept, slot) else {
-        return Ok(Some(Refusal::NotHeld));
-    };
-    let items = after(heap, kept, path.as_slice())?;
-    if items.len() >= 2 {
-        return Ok(Some(Refusal::Forked));
-    }
-    if items.as_slice().contains(&item) {
-        return Ok(Some(Refusal::Present));
-    }
-    Ok(None)
+    paths: IndexMap<u16, Vec<u32>>,
 }
 
-// Whether the paths `a` and `b` have the same first `n` items, and that many.
-fn alike(a: &Vec<u32>, b: &Vec<u32>, n: usize) -> bool {
-    for i in 0..n {
-        match (a.get(i), b.get(i)) {
-            (Some(x), Some(y)) => {
-                if *x != *y {
-                    return false;
-                }
-            }
-            _ => return false,
-        }
+impl Model {
+    // The empty path, which the first slot holds.
+    pub(crate) fn new(heap: Global) -> Result<Model, AllocError> {
+        let mut paths = IndexMap::new(heap);
+        paths.insert(FIRST_SLOT, Vec::new(heap))?;
+        Ok(Model { heap, paths })
     }
-    true
-}
 
-// How many different non-empty beginnings the paths have.
-pub(crate) fn beginnings(kept: &Vec<Kept>) -> usize {
-    let mut count: usize = 0;
-    for (i, k) in kept.iter().enumerate() {
-        for n in 1..k.path.len().saturating_add(1) {
-            let mut before = false;
-            for earlier in kept.iter().take(i) {
-                before = before || alike(&earlier.path, &k.path, n);
-            }
-            if !before {
-                count = count.saturating_add(1);
+    // How many slots are held.
+    pub(crate) fn len(&self) -> usize {
+        self.paths.len()
+    }
+
+    pub(crate) fn slot_at(&self, place: usize) -> Option<u16> {
+        self.paths.get_index(place).map(|(slot, _)| *slot)
+    }
+
+    pub(crate) fn is_held(&self, slot: u16) -> bool {
+        self.paths.contains_key(&slot)
+    }
+
+    // Whether `item` may be added under the slot `under`. There is always room here.
+    pub(crate) fn vet(&self, under: u16, item: u32) -> Result<Result<(), Refusal>, AllocError> {
+        let Some(path) = self.paths.get(&under) else {
+            return Ok(Err(Refusal::NotHeld));
+        };
+        let mut next = BTreeSet::new(self.heap);
+        for other in self.paths.values() {
+            if let Some([first, ..]) = other.strip_prefix(path) {
+                next.insert(*first)?;
             }
         }
+        if next.len() >= 2 {
+            return Ok(Err(Refusal::Forked));
+        }
+        if next.contains(&item) {
+            return Ok(Err(Refusal::Present));
+        }
+        Ok(Ok(()))
     }
-    count
-}
 
-// The item with which all paths begin.
-pub(crate) fn shared(kept: &Vec<Kept>) -> Option<u32> {
-    let first = kept.first()?;
-    let x = *first.path.first()?;
-    for k in kept {
-        if k.path.first().copied() != Some(x) {
-            return None;
+    // `slot` holds the path of `under` and then `item`.
+    pub(crate) fn add(&mut self, under: u16, item: u32, slot: u16) -> Result<(), AllocError> {
+        let mut path = match self.paths.get(&under) {
+            Some(path) => path.clone()?,
+            None => Vec::new(self.heap),
+        };
+        path.push(item)?;
+        self.paths.insert(slot, path)?;
+        Ok(())
+    }
+
+    // Lets the holder go; whether there was one.
+    pub(crate) fn release(&mut self, slot: u16) -> bool {
+        self.paths.swap_remove(&slot).is_some()
+    }
+
+    // The item with which all paths begin.
+    pub(crate) fn shared(&self) -> Option<u32> {
+        let mut firsts = self.paths.values().map(|path| path.first());
+        let item = *firsts.next()??;
+        firsts.all(|first| first == Some(&item)).then_some(item)
+    }
+
+    // Takes the first item off every path.
+    pub(crate) fn shorten(&mut self) {
+        for path in self.paths.values_mut() {
+            if !path.is_empty() {
+                path.remove(0);
+            }
         }
     }
-    Some(x)
-}
 
-// Takes the first item off every path.
-pub(crate) fn shorten(kept: &mut Vec<Kept>) {
-    for k in kept.iter_mut() {
-        if !k.path.is_empty() {
-            k.path.remove(0);
+    // How many different non-empty beginnings the paths have.
+    pub(crate) fn count(&self) -> Result<usize, AllocError> {
+        let mut beginnings = BTreeSet::new(self.heap);
+        for path in self.paths.values() {
+            for n in 1..=path.len() {
+                beginnings.insert(&path[..n])?;
+            }
         }
+        Ok(beginnings.len())
     }
-}
-
-// Lets the holder go; whether there was one.
-pub(crate) fn drop_holder(kept: &mut Vec<Kept>, slot: u16) -> bool {
-    for i in 0..kept.len() {
-        if kept[i].slot == slot {
-            kept.swap_remove(i);
-            return true;
-        }
-    }
-    false
 }

@@ -1,11 +1,12 @@
-use crate::model::{Kept, bar, beginnings, drop_holder, path_of, shared, shorten};
+ghost use Rattle.std.specs.Prelude.{◌≤◌, ◌-◌};
+
+use crate::model::Model;
 use std::alloc::{AllocError, Global};
-use tree::limits::FIRST_SLOT;
 use tree::paths::PathTree;
 use tree::refusal::Refusal;
 
-// What the calls of a trial answered. `wrong` counts the answers that plain lists do not give.
-#[derive(Drop)]
+// What the calls of a trial answered. `wrong` counts the answers that the model does not give.
+#[derive(Default, Drop)]
 pub struct Tally {
     pub added: u32,
     pub not_held: u32,
@@ -17,7 +18,15 @@ pub struct Tally {
     pub wrong: u32,
 }
 
-// A generator of numbers that look random.
+// A call of the tree.
+#[derive(Clone, Copy)]
+enum Call {
+    Add(u32),
+    Release,
+    TakeFirst,
+}
+
+// A generator of numbers that look random. One of a library would draw other calls, and so print other counts.
 #[derive(Drop)]
 struct Dice {
     seed: u64,
@@ -25,168 +34,129 @@ struct Dice {
 
 impl Dice {
     // A number below `sides`, or 0.
-    fn roll(&mut self, sides: u64) -> u64 {
+    fn roll(&mut self, sides: u64) -> u64
+        ensures { result ≤ sides - 1 }
+    {
         self.seed = self
             .seed
             .wrapping_mul(6364136223846793005)
             .wrapping_add(1442695040888963407);
-        let high = self.seed >> 33;
-        if sides == 0 { 0 } else { high % sides }
+        (self.seed >> 33).checked_rem(sides).unwrap_or(0)
+    }
+
+    // Mostly a held slot.
+    fn slot(&mut self, model: &Model) -> u16 {
+        let place = self.roll(model.len() as u64) as usize;
+        match model.slot_at(place) {
+            Some(_) if self.roll(16) == 0 => self.roll(4096) as u16,
+            Some(slot) => slot,
+            None => 0,
+        }
+    }
+
+    // Any call; where many slots are held, none that adds one.
+    fn call(&mut self, many: bool) -> Call {
+        match self.roll(10) {
+            0..=2 => Call::Release,
+            3 => Call::TakeFirst,
+            _ if many => Call::Release,
+            _ => Call::Add(self.roll(3) as u32),
+        }
     }
 }
 
-// A tree beside the list of what it should hold.
+// Adds one. No trial makes as many calls as a count can hold.
+fn tick(count: &mut u32) {
+    *count = count.saturating_add(1);
+}
+
+// A tree beside the model of what it should hold.
 #[derive(Drop)]
 struct Trial {
     tree: PathTree,
-    kept: Vec<Kept>,
+    model: Model,
     tally: Tally,
-}
-
-// The first holder: the empty path.
-fn first(heap: Global) -> Result<Vec<Kept>, AllocError> {
-    let mut kept = Vec::new(heap);
-    kept.push(Kept {
-        slot: FIRST_SLOT,
-        path: Vec::new(heap),
-    })?;
-    Ok(kept)
 }
 
 impl Trial {
     fn note(&mut self, right: bool) {
         if !right {
-            self.tally.wrong = self.tally.wrong.saturating_add(1);
+            tick(&mut self.tally.wrong);
         }
     }
 
-    // Mostly a held slot.
-    fn slot(&self, dice: &mut Dice) -> u16 {
-        let i = dice.roll(self.kept.len() as u64) as usize;
-        match self.kept.get(i) {
-            Some(k) => {
-                if dice.roll(16) == 0 {
-                    (dice.roll(4096) & 0xfff) as u16
-                } else {
-                    k.slot
-                }
+    fn add(&mut self, under: u16, item: u32) -> Result<(), AllocError> {
+        let expected = self.model.vet(under, item)?;
+        let answer = self.tree.add(under, item);
+        self.note(answer.map(|_| ()) == expected);
+        match answer {
+            Ok(slot) => {
+                let fresh = !self.model.is_held(slot);
+                self.note(fresh);
+                self.model.add(under, item, slot)?;
+                tick(&mut self.tally.added);
             }
-            None => 0,
+            Err(Refusal::NotHeld) => tick(&mut self.tally.not_held),
+            Err(Refusal::Present) => tick(&mut self.tally.present),
+            Err(Refusal::Forked) => tick(&mut self.tally.forked),
+            Err(Refusal::Full) => {}
         }
-    }
-
-    fn refused(&mut self, refusal: Refusal) {
-        match refusal {
-            Refusal::NotHeld => self.tally.not_held = self.tally.not_held.saturating_add(1),
-            Refusal::Present => self.tally.present = self.tally.present.saturating_add(1),
-            Refusal::Forked => self.tally.forked = self.tally.forked.saturating_add(1),
-            Refusal::Full => self.note(false),
-        }
-    }
-
-    fn added(&mut self, heap: Global, under: u16, item: u32, slot: u16) -> Result<(), AllocError> {
-        self.tally.added = self.tally.added.saturating_add(1);
-        let mut path = match path_of(&self.kept, under) {
-            Some(path) => path.clone()?,
-            None => Vec::new(heap),
-        };
-        path.push(item)?;
-        self.kept.push(Kept { slot, path })?;
         Ok(())
     }
 
-    fn add(&mut self, heap: Global, under: u16, item: u32) -> Result<(), AllocError> {
-        let expected = bar(heap, &self.kept, under, item)?;
-        match self.tree.add(under, item) {
-            Ok(slot) => {
-                let fresh = path_of(&self.kept, slot).is_none();
-                self.note(fresh && expected.is_none());
-                self.added(heap, under, item, slot)
-            }
-            Err(refusal) => {
-                self.note(expected == Some(refusal));
-                self.refused(refusal);
-                Ok(())
-            }
-        }
-    }
-
-    fn release(&mut self, holder: u16) {
-        let held = drop_holder(&mut self.kept, holder);
-        let answer = self.tree.release(holder);
-        if held {
-            self.tally.released = self.tally.released.saturating_add(1);
-        }
+    fn release(&mut self, slot: u16) {
+        let held = self.model.release(slot);
+        let answer = self.tree.release(slot);
         self.note(answer.is_ok() == held);
+        if held {
+            tick(&mut self.tally.released);
+        }
     }
 
-    fn take(&mut self) {
-        let expected = shared(&self.kept);
+    fn take_first(&mut self) {
+        let expected = self.model.shared();
         let answer = self.tree.take_first();
         self.note(answer == expected);
         if answer.is_some() {
-            self.tally.taken = self.tally.taken.saturating_add(1);
-            shorten(&mut self.kept);
+            tick(&mut self.tally.taken);
+            self.model.shorten();
         }
     }
 
-    fn count(&mut self) {
-        let expected = beginnings(&self.kept);
+    fn count(&mut self) -> Result<(), AllocError> {
+        let expected = self.model.count()?;
         let n = self.tree.count();
         self.note(n == expected);
         self.tally.largest = self.tally.largest.max(n);
+        Ok(())
     }
 
-    // One call, and the count after it. Where no holder is left a new tree begins.
+    // One call, and the count after it. Where no slot is held a new tree begins.
     fn turn(&mut self, heap: Global, dice: &mut Dice) -> Result<(), AllocError> {
-        if self.kept.is_empty() {
+        if self.model.len() == 0 {
             self.tree = PathTree::new();
-            self.kept = first(heap)?;
+            self.model = Model::new(heap)?;
         }
-        let slot = self.slot(dice);
-        let many = self.kept.len() > 12;
-        match dice.roll(10) {
-            0 | 1 | 2 => self.release(slot),
-            3 => self.take(),
-            _ => {
-                if many {
-                    self.release(slot);
-                } else {
-                    let item = (dice.roll(3) & 0xff) as u32;
-                    self.add(heap, slot, item)?;
-                }
-            }
+        let slot = dice.slot(&self.model);
+        match dice.call(self.model.len() > 12) {
+            Call::Add(item) => self.add(slot, item)?,
+            Call::Release => self.release(slot),
+            Call::TakeFirst => self.take_first(),
         }
-        self.count();
-        Ok(())
+        self.count()
     }
 }
 
 // Calls the tree `turns` times, with arguments that look random.
 pub(crate) fn run(heap: Global, turns: u32) -> Result<Tally, AllocError> {
-    let tally = Tally {
-        added: 0,
-        not_held: 0,
-        present: 0,
-        forked: 0,
-        released: 0,
-        taken: 0,
-        largest: 0,
-        wrong: 0,
-    };
     let mut trial = Trial {
         tree: PathTree::new(),
-        kept: first(heap)?,
-        tally,
+        model: Model::new(heap)?,
+        tally: Tally::default(),
     };
     let mut dice = Dice { seed: 2026 };
     for _ in 0..turns {
         trial.turn(heap, &mut dice)?;
     }
-    let Trial {
-        tree: _,
-        kept: _,
-        tally,
-    } = trial;
-    Ok(tally)
+    Ok(trial.tally)
 }

@@ -1,8 +1,11 @@
+use Rattle.tree.proofs.Start.{started_as}
 use Rattle.tree.proofs.Holding.{fresh_new}
 use Rattle.tree.proofs.paths.PathTree.new.Goals as goal
 
 pub invariant_of-result : goal.invariant_of-result
-invariant_of-result c = record { sound = ∣ c.new.ensures.sound ∣₁ }
+invariant_of-result c =
+    record { sound = ∣ (started_as c.default-entries.result c.default.result c.with_child.result c.spares.result.items c.spares.ensures.size c.spares.ensures.slots c.default-entries.ensures c.default.ensures c.with_child.ensures).sound ∣₁ }
 
 pub returns : goal.returns
-returns c = fresh_new _ c.new.ensures
+returns c =
+    fresh_new _ (started_as c.default-entries.result c.default.result c.with_child.result c.spares.result.items c.spares.ensures.size c.spares.ensures.slots c.default-entries.ensures c.default.ensures c.with_child.ensures)
