@@ -59,18 +59,6 @@ last_byte_shifted v n k f l =
     let e : eqb (length (bits_of v n)) 0 ≡ false = ne_eqb (length (bits_of v n)) 0 (λ z. omega (arith, length_bits_of v n)) in
     simp e (ap (λ (b : ℕ). b ∷ []) (byte_of_shifted v n f l))
 
--- the eighth bit
-module _ (v b : ℕ) (l : v < 2 ^ 7) (k : b < 2) where
-  full_next : bits_next (unfilled (bits_of v 7)) b ≡ unfilled []
-  full_next = let f : ltb b 2 ≡ true = lt-ltb b 2 k in simp f
-
-  full_added : bits_added (unfilled (bits_of v 7)) b ≡ (v * 2 + b) ∷ []
-  full_added =
-      let f : ltb b 2 ≡ true = lt-ltb b 2 k in
-      simp f
-      (ap (λ (z : ℕ). z ∷ [])
-      (ap byte_of (sym (bits_of_push v b 7 k)) ∙ byte_of_bits_of (v * 2 + b) 8 (omega arith) ∙ omega arith))
-
 -- a bit before the eighth
 module _ (v b n : ℕ) (l : n < 7) (k : b < 2) where
   pub more_next : unfilled (bits_of (v * 2 + b) (n + 1)) ≡ bits_next (unfilled (bits_of v n)) b
@@ -84,11 +72,3 @@ module _ (v b n : ℕ) (l : n < 7) (k : b < 2) where
       let e : eqb (length (bits_of v n)) 7 ≡ false = ne_eqb (length (bits_of v n)) 7 (λ z. omega (arith, length_bits_of v n)) in
       let f : ltb b 2 ≡ true = lt-ltb b 2 k in
       simp (e, f)
-
-pub eighth_next : (v b n : ℕ) → n ≡ 7 → v < 2 ^ n → b < 2 → unfilled [] ≡ bits_next (unfilled (bits_of v n)) b
-eighth_next v b n e l k =
-    sym (ap (λ (z : ℕ). bits_next (unfilled (bits_of v z)) b) e ∙ full_next v b (subst (λ (z : ℕ). v < 2 ^ z) e l) k)
-
-pub eighth_added : (v b n : ℕ) → n ≡ 7 → v < 2 ^ n → b < 2 → (v * 2 + b) ∷ [] ≡ bits_added (unfilled (bits_of v n)) b
-eighth_added v b n e l k =
-    sym (ap (λ (z : ℕ). bits_added (unfilled (bits_of v z)) b) e ∙ full_added v b (subst (λ (z : ℕ). v < 2 ^ z) e l) k)

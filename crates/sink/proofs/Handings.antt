@@ -8,7 +8,7 @@ use Rattle.sink.specs.Handing.{moved_by, grown_by, taken_count, hand_answer, all
 -- where all are taken, each is taken and so are those after it
 pub rest_taken : (a b : Result (Unit {0}) Fault) → is_ok (cond (is_ok a) b a) ≡ true → is_ok b ≡ true
 rest_taken (Ok x) b h = h
-rest_taken (Err f) b h = absurd (let z : ◌≡◌ {A = ℕ} 0 1 = cc in omega arith)
+rest_taken (Err f) b h = cc
 
 pub front_taken : (a b : Result (Unit {0}) Fault) → is_ok (cond (is_ok a) b a) ≡ true → is_ok a ≡ true
 front_taken (Ok x) b h = refl

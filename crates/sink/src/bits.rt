@@ -3,11 +3,12 @@ ghost use Rattle.std.specs.Prelude.{◌≡◌, []};
 ghost use Rattle.sink.specs.BitsMeaning.{bits_meaning, unfilled as unfilled_bits};
 ghost use Rattle.sink.specs.BitsState.{bits_position, bits_stock};
 ghost use Rattle.sink.specs.Meaning.{nothing};
+ghost use Rattle.sink.specs.Unfilled.{StepFor};
 
 use crate::Sink;
 use crate::refusing::refused;
 use crate::stock::{STOCK_BYTES, Stock};
-use crate::unfilled::Unfilled;
+use crate::unfilled::{Step, Unfilled};
 use alphabet::item::END_MARK;
 use fault::{Cause, Fault};
 
@@ -30,6 +31,16 @@ impl Bits {
             unfilled: Some(Unfilled::new()),
         }
     }
+
+    // What the item does to the unfilled byte, or that it is not expected.
+    fn step_for(&self, item: u32) -> Result<Step, Fault>
+        ensures { StepFor (bits_position self.now) item result }
+    {
+        match self.unfilled {
+            Some(unfilled) if item <= END_MARK => Ok(unfilled.step(item)),
+            _ => Err(refused(Cause::NotExpected)),
+        }
+    }
 }
 
 impl Sink for Bits {
@@ -40,41 +51,23 @@ impl Sink for Bits {
     ghost stock = { bits_stock };
 
     fn would(&self, item: u32) -> Result<(), Fault> {
-        let Some(unfilled) = &self.unfilled else {
-            return Err(refused(Cause::NotExpected));
-        };
-        if item > END_MARK {
-            return Err(refused(Cause::NotExpected));
-        }
-        let full = self.stock.len() >= STOCK_BYTES;
-        let step = unfilled.step(item);
-        if full && step.byte.is_some() {
+        let step = self.step_for(item)?;
+        if step.byte.is_some() && self.stock.len() >= STOCK_BYTES {
             return Err(refused(Cause::ChannelFull));
         }
         Ok(())
     }
 
     fn take(&mut self, item: u32) -> Result<(), Fault> {
-        let Some(unfilled) = &self.unfilled else {
-            return Err(refused(Cause::NotExpected));
-        };
-        if item > END_MARK {
-            return Err(refused(Cause::NotExpected));
-        }
-        let step = unfilled.step(item);
+        let step = self.step_for(item)?;
         if let Some(byte) = step.byte {
-            if !self.stock.push(byte) {
-                return Err(refused(Cause::ChannelFull));
-            }
+            self.stock.push(byte)?;
         }
         self.unfilled = step.after;
         Ok(())
     }
 
     fn pour(&mut self, channel: u32, buffer: &mut [u8]) -> Result<usize, Fault> {
-        if channel != 0 {
-            return Err(refused(Cause::NoChannel));
-        }
-        self.stock.pour(buffer)
+        self.stock.pour_channel(channel, buffer)
     }
 }

@@ -19,18 +19,16 @@ pub fn hand_over<S: Sink>(sink: &mut S, items: &[u32]) -> Handed
     ensures moved { S.position sink.new ≡ moved_by S.meaning (S.position sink.old) (front result.count items.now) }
     ensures stocked { S.stock sink.new ≡ grown_by S.meaning (S.position sink.old) (S.stock sink.old) (front result.count items.now) }
 {
-    let mut count = 0;
-    for item in items {
+    for (count, item) in items.iter().enumerate() {
         if let Err(fault) = sink.take(*item) {
             return Handed {
                 count,
                 answer: Err(fault),
             };
         }
-        count += 1;
     }
     Handed {
-        count,
+        count: items.len(),
         answer: Ok(()),
     }
 }

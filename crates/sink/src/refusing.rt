@@ -8,5 +8,5 @@ use fault::{Cause, Fault};
 pub fn refused(cause: Cause) -> Fault
     ensures { result ≡ sink_fault cause }
 {
-    Fault { cause, place: 0 }
+    Fault::new(cause, 0)
 }

@@ -1,6 +1,6 @@
 // The sink of bits.
 use crate::show;
-use crate::show::{Case, once};
+use crate::show::Case;
 use alphabet::item::{END_MARK, FIRST, FIRST_READ, SECOND};
 use sink::{Bits, Sink, file_bits};
 use std::io;
@@ -33,83 +33,39 @@ fn order(rt: &HostRuntime) -> io::Result<()> {
     file(rt, "111 and no end", &[1, 1, 1])
 }
 
-// What is expected.
-const ENDS: [Case; 5] = [
-    Case {
-        label: "above the end mark",
-        item: END_MARK + 1,
-        times: 1,
-    },
-    Case {
-        label: "a read",
-        item: FIRST_READ,
-        times: 1,
-    },
-    Case {
-        label: "the end mark",
-        item: END_MARK,
-        times: 1,
-    },
-    Case {
-        label: "the end mark again",
-        item: END_MARK,
-        times: 1,
-    },
-    Case {
-        label: "a branch after it",
-        item: FIRST,
-        times: 1,
-    },
-];
-
-// 4,096 bytes are 32,768 bits.
-const FILLS: [Case; 7] = [
-    Case {
-        label: "32,760 bits",
-        item: SECOND,
-        times: 32_760,
-    },
-    Case {
-        label: "8 more",
-        item: SECOND,
-        times: 8,
-    },
-    Case {
-        label: "7 more",
-        item: SECOND,
-        times: 7,
-    },
-    Case {
-        label: "the eighth",
-        item: FIRST,
-        times: 1,
-    },
-    Case {
-        label: "the end mark",
-        item: END_MARK,
-        times: 1,
-    },
-    Case {
-        label: "a read",
-        item: FIRST_READ,
-        times: 1,
-    },
-    Case {
-        label: "above the end mark",
-        item: END_MARK + 1,
-        times: 1,
-    },
-];
-
 pub(crate) fn run(rt: &HostRuntime) -> io::Result<()> {
     order(rt)?;
+    // What is expected.
     let mut sink = Bits::new();
-    show::takes(rt, &mut sink, &ENDS)?;
+    show::takes(
+        rt,
+        &mut sink,
+        &[
+            Case::once("above the end mark", END_MARK + 1),
+            Case::once("a read", FIRST_READ),
+            Case::once("the end mark", END_MARK),
+            Case::once("the end mark again", END_MARK),
+            Case::once("a branch after it", FIRST),
+        ],
+    )?;
+    // 4,096 bytes are 32,768 bits.
     let mut sink = Bits::new();
-    show::takes(rt, &mut sink, &FILLS)?;
+    show::takes(
+        rt,
+        &mut sink,
+        &[
+            Case::times("32,760 bits", SECOND, 32_760),
+            Case::times("8 more", SECOND, 8),
+            Case::times("7 more", SECOND, 7),
+            Case::once("the eighth", FIRST),
+            Case::once("the end mark", END_MARK),
+            Case::once("a read", FIRST_READ),
+            Case::once("above the end mark", END_MARK + 1),
+        ],
+    )?;
     let mut buffer = [0xeeu8; 4097];
     let answer = sink.pour(0, &mut buffer);
     show::written(rt, "channel 0", answer, &buffer[4094..4097])?;
-    show::takes(rt, &mut sink, &[once("the end mark", END_MARK)])?;
+    show::takes(rt, &mut sink, &[Case::once("the end mark", END_MARK)])?;
     show::pour(rt, "the filled byte", &mut sink, 0, &mut buffer[0..1])
 }

@@ -1,6 +1,6 @@
 // A pair of pairs.
 use crate::show;
-use crate::show::{Case, once};
+use crate::show::Case;
 use alphabet::item::{END_MARK, SECOND};
 use pattern::Pattern;
 use sink::{Bits, Pair, Sink, hand_over};
@@ -18,7 +18,7 @@ fn channels(rt: &HostRuntime, pattern: &Pattern) -> io::Result<()> {
     show::takes(
         rt,
         &mut begun,
-        &[once("the last of the four alone", SECOND)],
+        &[Case::once("the last of the four alone", SECOND)],
     )?;
     let mut sink = Pair {
         first: Pair {
@@ -31,8 +31,7 @@ fn channels(rt: &HostRuntime, pattern: &Pattern) -> io::Result<()> {
         },
     };
     let handed = hand_over(&mut sink, &[0, 202, 1, 100, 101, 102, 1, END_MARK]);
-    let count = handed.count;
-    println!(rt; "handed over: {count}")?;
+    println!(rt; "handed over: {}", handed.count)?;
     show::answer(rt, "the next", sink.take(SECOND))?;
     for channel in 0..6u32 {
         print!(rt; "channel {channel}, ")?;
@@ -42,57 +41,35 @@ fn channels(rt: &HostRuntime, pattern: &Pattern) -> io::Result<()> {
 }
 
 // One that refuses an item keeps the other from taking it.
-const BOTH: [Case; 5] = [
-    Case {
-        label: "a branch",
-        item: SECOND,
-        times: 1,
-    },
-    Case {
-        label: "a branch where the text expects a read",
-        item: SECOND,
-        times: 1,
-    },
-    Case {
-        label: "the end mark there",
-        item: END_MARK,
-        times: 1,
-    },
-    Case {
-        label: "a read",
-        item: 99,
-        times: 1,
-    },
-    Case {
-        label: "and another",
-        item: 100,
-        times: 1,
-    },
-];
-
-// The bits alone: they have one bit, so seven more are a byte; 32,768 fill the stock, and seven begin a byte more.
-const ALONE: [Case; 1] = [Case {
-    label: "seven more bits",
-    item: SECOND,
-    times: 7,
-}];
-
-const FULL: [Case; 1] = [Case {
-    label: "32,775 bits",
-    item: SECOND,
-    times: 32_775,
-}];
-
 fn neither(rt: &HostRuntime, pattern: &Pattern) -> io::Result<()> {
     let mut sink = Pair {
         first: Bits::new(),
         second: Text::new(pattern, Manner::Plain),
     };
-    show::takes(rt, &mut sink, &BOTH)?;
-    show::takes(rt, &mut sink.first, &ALONE)?;
+    show::takes(
+        rt,
+        &mut sink,
+        &[
+            Case::once("a branch", SECOND),
+            Case::once("a branch where the text expects a read", SECOND),
+            Case::once("the end mark there", END_MARK),
+            Case::once("a read", 99),
+            Case::once("and another", 100),
+        ],
+    )?;
+    // The bits alone: they have one bit, so seven more are a byte; 32,768 fill the stock, and seven begin a byte more.
+    show::takes(
+        rt,
+        &mut sink.first,
+        &[Case::times("seven more bits", SECOND, 7)],
+    )?;
     show::pour(rt, "the bits", &mut sink, 0, &mut [0xee; 2])?;
     show::pour(rt, "the text", &mut sink, 1, &mut [0xee; 3])?;
-    show::takes(rt, &mut sink.first, &FULL)?;
+    show::takes(
+        rt,
+        &mut sink.first,
+        &[Case::times("32,775 bits", SECOND, 32_775)],
+    )?;
     show::answer(rt, "full and expected", sink.would(SECOND))?;
     show::answer(
         rt,

@@ -11,8 +11,7 @@ pub(crate) fn run(rt: &HostRuntime) -> io::Result<()> {
     println!(rt; "A stock of two bytes.")?;
     let mut sink = Bits::new();
     let handed = hand_over(&mut sink, &CODE);
-    let count = handed.count;
-    println!(rt; "handed over: {count}")?;
+    println!(rt; "handed over: {}", handed.count)?;
     let handed = hand_over(&mut sink, &CODE);
     show::answer(rt, "once more", handed.answer)?;
     show::pour(rt, "no such channel", &mut sink, 1, &mut [])?;

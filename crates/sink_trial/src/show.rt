@@ -5,18 +5,20 @@ use std::io;
 
 // An item to take some times over.
 #[derive(Clone, Copy)]
-pub struct Case {
-    pub label: &'static str,
-    pub item: u32,
-    pub times: u32,
+pub(crate) struct Case {
+    label: &'static str,
+    item: u32,
+    times: u32,
 }
 
-// One item, once.
-pub(crate) fn once(label: &'static str, item: u32) -> Case {
-    Case {
-        label,
-        item,
-        times: 1,
+impl Case {
+    // One item, once.
+    pub(crate) fn once(label: &'static str, item: u32) -> Case {
+        Case::times(label, item, 1)
+    }
+
+    pub(crate) fn times(label: &'static str, item: u32, times: u32) -> Case {
+        Case { label, item, times }
     }
 }
 
@@ -47,8 +49,7 @@ pub(crate) fn takes<S: Sink>(rt: &HostRuntime, sink: &mut S, cases: &[Case]) -> 
 // Bytes in hexadecimal digits.
 pub(crate) fn bytes(rt: &HostRuntime, bytes: &[u8]) -> io::Result<()> {
     for byte in bytes {
-        let b = *byte;
-        print!(rt; " {b:02x}")?;
+        print!(rt; " {byte:02x}")?;
     }
     println!(rt; "")
 }

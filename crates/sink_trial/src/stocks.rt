@@ -4,9 +4,8 @@ use sink::Stock;
 use std::io;
 
 fn add(rt: &HostRuntime, label: &str, stock: &mut Stock, more: &[u8]) -> io::Result<()> {
-    let fits = stock.append(more);
-    let len = stock.len();
-    println!(rt; "{label}: {fits}, {len}")
+    let fits = stock.append(more).is_ok();
+    println!(rt; "{label}: {fits}, {}", stock.len())
 }
 
 pub(crate) fn run(rt: &HostRuntime) -> io::Result<()> {

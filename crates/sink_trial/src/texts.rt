@@ -39,8 +39,7 @@ fn long(after: &[u8; 5]) -> Pattern {
 // The numbers, each after the first branch of the star.
 fn numbers(rt: &HostRuntime, manner: Manner, numbers: &[u32]) -> io::Result<()> {
     let pattern = loaded(&KEPT);
-    for number in numbers {
-        let n = *number;
+    for &n in numbers {
         let mut buffer = [0xeeu8; 4];
         let answer = write_text(
             &pattern,
@@ -76,53 +75,6 @@ fn nearly_full(rt: &HostRuntime, after: &[u8; 5], fit: u32) -> io::Result<()> {
     show::answer(rt, "its read again", sink.take(FIRST_READ))
 }
 
-// A row up to its comma, and the rest of it.
-const FRONT: [Case; 4] = [
-    Case {
-        label: "a branch",
-        item: FIRST,
-        times: 1,
-    },
-    Case {
-        label: "5",
-        item: 55,
-        times: 1,
-    },
-    Case {
-        label: "a comma",
-        item: 46,
-        times: 1,
-    },
-    Case {
-        label: "the end too early",
-        item: END_MARK,
-        times: 1,
-    },
-];
-
-const REST: [Case; 4] = [
-    Case {
-        label: "7",
-        item: 57,
-        times: 1,
-    },
-    Case {
-        label: "a read at the end",
-        item: 57,
-        times: 1,
-    },
-    Case {
-        label: "the end mark",
-        item: END_MARK,
-        times: 1,
-    },
-    Case {
-        label: "the end mark again",
-        item: END_MARK,
-        times: 1,
-    },
-];
-
 pub(crate) fn run(rt: &HostRuntime) -> io::Result<()> {
     println!(rt; "Numbers in groups of seven bits.")?;
     numbers(
@@ -136,10 +88,29 @@ pub(crate) fn run(rt: &HostRuntime) -> io::Result<()> {
     nearly_full(rt, &DROPPED, 4)?;
     nearly_full(rt, &LONG_KEPT, 3)?;
     println!(rt; "A text is written when it is passed.")?;
+    // A row up to its comma, and the rest of it.
     let pattern = loaded(&ROW);
     let mut sink = Text::new(&pattern, Manner::Plain);
-    show::takes(rt, &mut sink, &FRONT)?;
+    show::takes(
+        rt,
+        &mut sink,
+        &[
+            Case::once("a branch", FIRST),
+            Case::once("5", 55),
+            Case::once("a comma", 46),
+            Case::once("the end too early", END_MARK),
+        ],
+    )?;
     show::pour(rt, "after the comma", &mut sink, 0, &mut [0xee; 4])?;
-    show::takes(rt, &mut sink, &REST)?;
+    show::takes(
+        rt,
+        &mut sink,
+        &[
+            Case::once("7", 57),
+            Case::once("a read at the end", 57),
+            Case::once("the end mark", END_MARK),
+            Case::once("the end mark again", END_MARK),
+        ],
+    )?;
     show::pour(rt, "at the end", &mut sink, 0, &mut [0xee; 4])
 }

@@ -15,7 +15,10 @@ use Rattle.pattern.specs.Patterns.{points_of, text_of, bytes_at, Leads, LeadsIf}
 use Rattle.pattern.proofs.Tables.{length_table}
 use Rattle.pattern.proofs.Links.{count_points, point_at, none_at, leads_at}
 use Rattle.text.specs.Passing.{settled, passed, NoText}
+use Rattle.text.specs.declared.passing.Texts.{Texts}
 use Rattle.text.specs.Laws.{TextsEnd}
+use Rattle.text.specs.TextMeaning.{kind_of}
+use Rattle.text.specs.Texts.{Passes, Stays}
 use Rattle.text.proofs.Settling.{Up, Rises, ends_from, settled_stays, passed_silent, settled_goes, passed_writes}
 
 up_if : (n i : ℕ) (p : Point) → Leads n i p → Up i p
@@ -34,11 +37,11 @@ rises_from n (p ∷ ps) i h =
 
 -- a point that steps on freely is a text, and any other is none
 text_at : (o : Option Point) (n : ℕ) → step_of o ≡ step.Pass n → (start : ℕ) × (len : ℕ) × (o ≡ Some (Text start len n))
-text_at None n h = absurd (let z : ◌≡◌ {A = ℕ} 0 1 = cc in omega arith)
-text_at (Some (Read keep class next)) n h = absurd (let z : ◌≡◌ {A = ℕ} 0 1 = cc in omega arith)
+text_at None n h = cc
+text_at (Some (Read keep class next)) n h = cc
 text_at (Some (Text start len next)) n h = (start, len, let e : next ≡ n = cc in ap (λ (k : ℕ). Some (Text start len k)) e)
-text_at (Some (Choice a b)) n h = absurd (let z : ◌≡◌ {A = ℕ} 0 1 = cc in omega arith)
-text_at (Some (Star a b)) n h = absurd (let z : ◌≡◌ {A = ℕ} 0 1 = cc in omega arith)
+text_at (Some (Choice a b)) n h = cc
+text_at (Some (Star a b)) n h = cc
 
 no_text_at : (o : Option Point) → ((n : ℕ) → step_of o ≡ step.Pass n → ⊥) → NoText o
 no_text_at None h = tt
@@ -79,31 +82,6 @@ module _ (p : Pattern) where
     writes = λ k start len next e. passed_writes (text_of p) (points_of p) 0 k k start len next (omega arith) (text_leads k start len next e).1 e;
   }
 
-  -- one free step
-  pub record Onward (k n : ℕ) : Type 0 where
-    pub up : k < n
-    pub within : n ≤ length (points_of p)
-    pub settles : settled (points_of p) k ≡ settled (points_of p) n
-    pub passes : passed (points_of p) (text_of p) k ≡ bytes_at (text_of p) (slice_get (points_of p) k) ++ passed (points_of p) (text_of p) n
-
-  pub step_on : (k n : ℕ) → step_at (points_of p) k ≡ step.Pass n → Onward k n
-  step_on k n h =
-      let t = text_at (slice_get (points_of p) k) n h in
-      let l = text_leads k t.0 t.1 n t.2 in
-      record {
-        up = l.1;
-        within = l.0;
-        settles = texts_end.goes_on k t.0 t.1 n t.2;
-        passes = texts_end.writes k t.0 t.1 n t.2 ∙ ap (λ (o : Option Point). bytes_at (text_of p) o ++ passed (points_of p) (text_of p) n) (sym t.2);
-      }
-
-  -- no free step
-  pub step_stays : (k : ℕ) → ((n : ℕ) → step_at (points_of p) k ≡ step.Pass n → ⊥) → settled (points_of p) k ≡ k
-  step_stays k h = texts_end.stays k (no_text_at (slice_get (points_of p) k) h)
-
-  pub step_silent : (k : ℕ) → ((n : ℕ) → step_at (points_of p) k ≡ step.Pass n → ⊥) → passed (points_of p) (text_of p) k ≡ []
-  step_silent k h = texts_end.silent k (no_text_at (slice_get (points_of p) k) h)
-
   pub few : length (points_of p) ≤ most_points
   few = ∥∥₁_elim p.made le_prop (λ w. omega (arith, w.1.few, ap length w.1.points, length_table w.0 0 (size w.0) 0))
 
@@ -112,3 +90,32 @@ module _ (p : Pattern) where
 
   pub short_text : (k : ℕ) → length (bytes_at (text_of p) (slice_get (points_of p) k)) ≤ most_text
   short_text k = omega (arith, little, short_at (text_of p) (slice_get (points_of p) k))
+
+-- one text is passed
+pub passes_on : (s : Texts) (n : ℕ) (x : List ℕ) → step_at (points_of s.pattern.now) s.at ≡ step.Pass n
+    → x ≡ bytes_at (text_of s.pattern.now) (slice_get (points_of s.pattern.now) s.at) → Passes s x record { pattern = s.pattern; at = n }
+passes_on s n x h e =
+    let p = s.pattern.now in
+    let t = text_at (slice_get (points_of p) s.at) n h in
+    let l = text_leads p s.at t.0 t.1 n t.2 in
+    record {
+      pattern = refl;
+      up = l.1;
+      within = l.0;
+      short = omega (arith, ap length e, short_text p s.at);
+      kind = ap (λ (k : ℕ). kind_of (slice_get (points_of p) k)) ((texts_end p).goes_on s.at t.0 t.1 n t.2);
+      bytes =
+          (texts_end p).writes s.at t.0 t.1 n t.2
+          ∙ ap (λ (o : Option Point). bytes_at (text_of p) o ++ passed (points_of p) (text_of p) n) (sym t.2)
+          ∙ ap (λ (y : List ℕ). y ++ passed (points_of p) (text_of p) n) (sym e);
+    }
+
+-- no text is there
+pub stays_there : (s : Texts) → ((n : ℕ) → step_at (points_of s.pattern.now) s.at ≡ step.Pass n → ⊥) → Stays s s
+stays_there s h =
+    let q = no_text_at (slice_get (points_of s.pattern.now) s.at) h in
+    record {
+      same = refl;
+      kind = ap (λ (k : ℕ). kind_of (slice_get (points_of s.pattern.now) k)) ((texts_end s.pattern.now).stays s.at q);
+      bytes = (texts_end s.pattern.now).silent s.at q;
+    }

@@ -67,7 +67,7 @@ text_onward i k start len next e = ap (λ (b : Bool). cond b next k) (eq-eqb i k
 
 pub settled_goes : (ps : List Point) (i j k start len next : ℕ) → k ≡ i + j → k < next → slice_get ps j ≡ Some (Text start len next)
     → settled_from i ps k ≡ settled_from i ps next
-settled_goes [] i j k start len next e l h = absurd (let z : ◌≡◌ {A = ℕ} 0 1 = cc in omega arith)
+settled_goes [] i j k start len next e l h = cc
 settled_goes (p ∷ ps) i zero k start len next e l h =
     let q : p ≡ Text start len next = cc in
     ap (settled_from (suc i) ps)
@@ -81,7 +81,7 @@ settled_goes (p ∷ ps) i (suc j) k start len next e l h =
 
 pub passed_writes : (ts : List ℕ) (ps : List Point) (i j k start len next : ℕ) → k ≡ i + j → k < next → slice_get ps j ≡ Some (Text start len next)
     → passed_from ts i ps k ≡ own_bytes ts (Text start len next) ++ passed_from ts i ps next
-passed_writes ts [] i j k start len next e l h = absurd (let z : ◌≡◌ {A = ℕ} 0 1 = cc in omega arith)
+passed_writes ts [] i j k start len next e l h = cc
 passed_writes ts (p ∷ ps) i zero k start len next e l h =
     let q : p ≡ Text start len next = cc in
     let here : cond (eqb i k) (own_bytes ts p) [] ≡ own_bytes ts (Text start len next) =

@@ -1,26 +1,29 @@
 -- When the sink of text takes an item, and what its one channel holds then.
-use Rattle.std.proofs.Common.{◌≡◌, ℕ, ◌+◌, ◌<◌, ◌≤◌, Bool, true, false, cond, eqb, leb, List, [], ◌∷◌, ◌++◌, length, Some, None, Ok, Err, Option, sym, refl, ap, ◌∙◌, append_assoc, append-nil, arith, length-append}
+use Rattle.std.proofs.Common.{◌≡◌, ℕ, ◌+◌, ◌<◌, ◌≤◌, true, false, cond, eqb, leb, List, [], ◌∷◌, ◌++◌, length, Some, None, Ok, Err, Option, Result, sym, refl, ap, ◌∙◌, append_assoc, append-nil, subst, arith, length-append}
 use mathlib.Core.Path.{fun_ext}
 use Rattle.std.proofs.lemmas.Bool.{le-leb, lt-leb}
 use Rattle.std.specs.List.{slice_get}
+use Rattle.std.specs.Result.{IsOk}
+use Rattle.fault.specs.declared.refusal.Fault.{Fault}
 use Rattle.fault.specs.declared.cause.Cause.TheVariants.{NotExpected, ChannelFull}
 use Rattle.alphabet.specs.Items.{end_mark}
 use Rattle.pattern.specs.declared.point.Point.{Point}
 use Rattle.pattern.specs.declared.point.Point.TheVariants as point
-use Rattle.pattern.specs.declared.pattern.Pattern.{Pattern}
 use Rattle.pattern.specs.Patterns.{points_of, text_of}
+use Rattle.sink.specs.Held.{held}
 use Rattle.sink.specs.Limits.{stock_bytes}
 use Rattle.sink.specs.Meaning.{Stocks, nothing, alone, sink_fault, take_answer, grown}
 use Rattle.sink.specs.Handing.{moved_by, grown_by}
 use Rattle.sink.proofs.Handings.{Expects}
+use Rattle.text.specs.declared.text.Text.{Text}
 use Rattle.text.specs.declared.manner.Manner.{Manner}
+use Rattle.text.specs.declared.kind.Kind.{Kind}
 use Rattle.text.specs.declared.moving.Move.{Move}
 use Rattle.text.specs.Passing.{settled, passed}
-use Rattle.text.specs.Tails.{tail_bytes}
-use Rattle.text.specs.Moving.{Moves}
+use Rattle.text.specs.Moving.{Moves, Moved}
 use Rattle.text.specs.Planning.{Plans}
 use Rattle.text.specs.TextMeaning.{TextPosition, at, ended, place, kind_of, next_at, met, expected_at, text_meaning, text_expected, text_next, text_added, text_of_items}
-use Rattle.text.specs.TextState.{place_in}
+use Rattle.text.specs.TextState.{place_in, text_position, text_stock}
 
 module _ (q : TextPosition) (h : List ℕ) (i : ℕ) where
   text_takes : text_expected q i ≡ true → length h + length (text_added q i) ≤ stock_bytes → take_answer text_meaning q (alone h []) i ≡ Ok tt
@@ -37,65 +40,60 @@ module _ (q : TextPosition) (h : List ℕ) (i : ℕ) where
   text_unexpected e = simp e
 
 -- a plan made of what passing and moving answer
-module _ (p : Pattern) (m : Manner) (o : Option ℕ) (from : ℕ) (h : List ℕ) (i : ℕ) (v : Move) (here : o ≡ Some from)
-    (moves : Moves m (met (points_of p) from) i v) where
+module _ (s : Text) (from : ℕ) (i : ℕ) (here : s.point ≡ Some from)
+    (k : Kind) (meets : k ≡ met (points_of s.pattern.now) from) (r : Option Move) (moved : Moved s.manner k i r) where
   abbrev texts : List ℕ
-  texts = passed (points_of p) (text_of p) from
+  texts = passed (points_of s.pattern.now) (text_of s.pattern.now) from
 
-  added_here : texts ++ tail_bytes v.tail ≡ text_added (place_in p m o) i
-  added_here = ap (λ (x : List ℕ). texts ++ x) moves.adds ∙ ap (λ (k : Option ℕ). text_added (place_in p m k) i) (sym here)
+  abbrev at_point : Option ℕ → TextPosition
+  at_point o = place_in s.pattern.now s.manner o
 
-  long_here : length (text_added (place_in p m o) i) ≡ length texts + length (tail_bytes v.tail)
-  long_here = sym (ap length added_here) ∙ length-append texts (tail_bytes v.tail)
+  -- the point past the texts does not expect the item
+  pub unexpected_here : r ≡ None → Err (sink_fault NotExpected) ≡ take_answer text_meaning (text_position s) (text_stock s) i
+  unexpected_here e =
+      text_unexpected (text_position s) (held s.stock) i
+      (ap (λ (o : Option ℕ). text_expected (at_point o) i) here
+      ∙ sym (ap (λ (q : Kind). expected_at s.manner q i) meets)
+      ∙ subst (Moved s.manner k i) e moved)
 
-  expected_here : text_expected (place_in p m o) i ≡ true
-  expected_here = ap (λ (k : Option ℕ). text_expected (place_in p m k) i) here ∙ moves.expects
+  module _ (v : Move) (e : r ≡ Some v) where
+    moves : Moves s.manner (met (points_of s.pattern.now) from) i v
+    moves = subst (λ (q : Kind). Moves s.manner q i v) meets (subst (Moved s.manner k i) e moved)
 
-  next_here : place_in p m v.next ≡ text_next (place_in p m o) i
-  next_here = ap (place_in p m) moves.goes ∙ ap (λ (k : Option ℕ). text_next (place_in p m k) i) (sym here)
+    added_here : texts ++ v.tail.items ≡ text_added (text_position s) i
+    added_here = ap (λ (x : List ℕ). texts ++ x) moves.adds ∙ ap (λ (o : Option ℕ). text_added (at_point o) i) (sym here)
 
-  pub plans_here : length h + (length texts + length (tail_bytes v.tail)) ≤ stock_bytes
-      → Plans p m o h i record { from = from; next = v.next; tail = v.tail }
-  plans_here l =
-      let room : length h + length (text_added (place_in p m o) i) ≤ stock_bytes = omega (arith, long_here) in
-      record {
-        taken = text_takes (place_in p m o) h i expected_here room;
-        goes = next_here;
-        adds = added_here;
-        fits = room;
-      }
+    long_here : length (text_added (text_position s) i) ≡ length texts + length v.tail.items
+    long_here = sym (ap length added_here) ∙ length-append texts v.tail.items
 
-  pub full_here : stock_bytes < length h + (length texts + length (tail_bytes v.tail))
-      → Err (sink_fault ChannelFull) ≡ take_answer text_meaning (place_in p m o) (alone h []) i
-  full_here l = text_full (place_in p m o) h i expected_here (omega (arith, long_here))
+    expected_here : text_expected (text_position s) i ≡ true
+    expected_here = ap (λ (o : Option ℕ). text_expected (at_point o) i) here ∙ moves.expects
 
-pub unexpected_here : (p : Pattern) (m : Manner) (o : Option ℕ) (from : ℕ) (h : List ℕ) (i : ℕ) → o ≡ Some from
-    → expected_at m (met (points_of p) from) i ≡ false → Err (sink_fault NotExpected) ≡ take_answer text_meaning (place_in p m o) (alone h []) i
-unexpected_here p m o from h i here e =
-    text_unexpected (place_in p m o) h i (ap (λ (k : Option ℕ). text_expected (place_in p m k) i) here ∙ e)
+    next_here : at_point v.next ≡ text_next (text_position s) i
+    next_here = ap at_point moves.goes ∙ ap (λ (o : Option ℕ). text_next (at_point o) i) (sym here)
 
-pub unexpected_ended : (p : Pattern) (m : Manner) (o : Option ℕ) (h : List ℕ) (i : ℕ) → o ≡ None
-    → Err (sink_fault NotExpected) ≡ take_answer text_meaning (place_in p m o) (alone h []) i
-unexpected_ended p m o h i e = text_unexpected (place_in p m o) h i (ap (λ (k : Option ℕ). text_expected (place_in p m k) i) e)
+    pub plans_here : length (held s.stock) + (length texts + length v.tail.items) ≤ stock_bytes
+        → Plans s i record { texts = record { pattern = s.pattern; at = from }; then = v }
+    plans_here l =
+        let room : length (held s.stock) + length (text_added (text_position s) i) ≤ stock_bytes = omega (arith, long_here) in
+        record {
+          taken = text_takes (text_position s) (held s.stock) i expected_here room;
+          goes = next_here;
+          adds = added_here;
+          fits = room;
+        }
+
+    pub full_here : stock_bytes < length (held s.stock) + (length texts + length v.tail.items)
+        → Err (sink_fault ChannelFull) ≡ take_answer text_meaning (text_position s) (text_stock s) i
+    full_here l = text_full (text_position s) (held s.stock) i expected_here (omega (arith, long_here))
 
 pub alone_grown : (h a : List ℕ) → alone (h ++ a) [] ≡ (λ c. alone h [] c ++ alone a [] c)
 alone_grown h a = fun_ext (λ c. elim (eqb c 0) as (λ b. cond b (h ++ a) [] ≡ cond b h [] ++ cond b a []) [ true ↦ refl | false ↦ refl ])
 
--- the texts and then the tail, both added
-pub both_added : (h a b all h₁ h₂ : List ℕ) (r : Bool) → a ++ b ≡ all → length h + length all ≤ stock_bytes → h₁ ≡ h ++ a
-    → r ≡ leb (length h₁ + length b) stock_bytes → h₂ ≡ cond r (h₁ ++ b) h₁ → h₂ ≡ h ++ all
-both_added h a b all h₁ h₂ r e l f g k =
-    let n : length h₁ + length b ≡ length h + length all =
-    ap (λ (z : ℕ). z + length b) (ap length f ∙ length-append h a) ∙ omega (arith, length-append a b, ap length e) in
-    let t : r ≡ true = g ∙ le-leb (length h₁ + length b) stock_bytes (omega arith) in
-    k ∙ ap (λ (z : Bool). cond z (h₁ ++ b) h₁) t ∙ ap (λ (z : List ℕ). z ++ b) f ∙ append_assoc h a b ∙ ap (λ (z : List ℕ). h ++ z) e
-
--- one text more at the end of what is held
-pub held_more : (h t rest all : List ℕ) (r : Bool) → length h + length t ≤ stock_bytes → r ≡ leb (length h + length t) stock_bytes
-    → h ++ (t ++ rest) ≡ all → cond r (h ++ t) h ++ rest ≡ all
-held_more h t rest all r l e f =
-    let g : r ≡ true = e ∙ le-leb (length h + length t) stock_bytes l in
-    ap (λ (b : Bool). cond b (h ++ t) h ++ rest) g ∙ append_assoc h t rest ∙ f
+-- a stock that has room for some bytes takes them
+pub taken_in : (h t : List ℕ) (r : Result (Unit {0}) Fault) → length h + length t ≤ stock_bytes
+    → r ≡ cond (leb (length h + length t) stock_bytes) (Ok tt) (Err (sink_fault ChannelFull)) → IsOk r
+taken_in h t r l e = let f = le-leb (length h + length t) stock_bytes l in simp (e, f)
 
 -- what items add to the one channel is their text
 adds_from : (q : TextPosition) (s : Stocks) (is : List ℕ) (c : ℕ) → grown_by text_meaning q s is c ≡ s c ++ alone (text_of_items q is) [] c
@@ -110,15 +108,12 @@ adds_text q is = fun_ext (adds_from q nothing is)
 
 -- after the end mark a sink of text has ended
 
-never_false : {X : Type 0} → false ≡ true → X
-never_false e = let z : ◌≡◌ {A = ℕ} 0 1 = cc in absurd (omega arith)
-
 end_at : (ps : List Point) (ts : List ℕ) (m : Manner) (o : Option Point) → expected_at m (kind_of o) end_mark ≡ true → place ps ts m (next_at (kind_of o) end_mark) ≡ ended
 end_at ps ts m None h = refl
-end_at ps ts m (Some (point.Read keep class next)) h = never_false h
-end_at ps ts m (Some (point.Text start len next)) h = never_false h
-end_at ps ts m (Some (point.Choice a b)) h = never_false h
-end_at ps ts m (Some (point.Star a b)) h = never_false h
+end_at ps ts m (Some (point.Read keep class next)) h = cc
+end_at ps ts m (Some (point.Text start len next)) h = cc
+end_at ps ts m (Some (point.Choice a b)) h = cc
+end_at ps ts m (Some (point.Star a b)) h = cc
 
 ends_at : (q : TextPosition) → text_expected q end_mark ≡ true → text_next q end_mark ≡ ended
 ends_at (at ps ts m k) h = end_at ps ts m (slice_get ps (settled ps k)) h

@@ -1,7 +1,8 @@
+pub mod Manners
 pub mod Passing
+pub mod Texts
 pub mod TextMeaning
 pub mod TextState
-pub mod Tails
 pub mod Moving
 pub mod Planning
 pub mod Laws

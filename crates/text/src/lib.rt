@@ -6,11 +6,10 @@ pub mod laws;
 mod manner;
 mod moving;
 mod passing;
-mod planning;
 mod tail;
 mod text;
 mod writing;
 
-pub use manner::Manner;
+pub use manner::{Manner, UnknownManner};
 pub use text::Text;
 pub use writing::write_text;

@@ -1,16 +1,16 @@
 // The sink of text.
 ghost use Rattle.std.specs.Prelude.{◌≡◌};
 ghost use Rattle.sink.specs.Meaning.{nothing};
+ghost use Rattle.text.specs.Planning.{Planned};
 ghost use Rattle.text.specs.TextMeaning.{text_meaning};
 ghost use Rattle.text.specs.TextState.{start_of, text_position, text_stock};
 
 use crate::manner::Manner;
-use crate::passing::pass_into;
-use crate::planning::Plan;
-use crate::planning::plans::plan;
+use crate::moving::{Move, move_at};
+use crate::passing::Texts;
 use fault::{Cause, Fault};
 use pattern::Pattern;
-use sink::{Sink, Stock, refused};
+use sink::{STOCK_BYTES, Sink, Stock, refused};
 
 // Writes the text of the walk that the items take through a pattern, in channel 0.
 #[derive(Drop)]
@@ -20,6 +20,13 @@ pub struct Text<'p> {
     // None after the end mark.
     point: Option<u8>,
     stock: Stock,
+}
+
+// What to do on an item that is to be taken: add the texts that are passed, and make the move of the point past them.
+#[derive(Drop)]
+pub(crate) struct Plan<'p> {
+    pub texts: Texts<'p>,
+    pub then: Move,
 }
 
 impl<'p> Text<'p> {
@@ -35,6 +42,26 @@ impl<'p> Text<'p> {
             stock: Stock::new(),
         }
     }
+
+    // What to do on the item, or why it is refused.
+    fn plan(&self, item: u32) -> Result<Plan<'p>, Fault>
+        ensures { Planned self.now item result }
+    {
+        let from = self.point.ok_or(refused(Cause::NotExpected))?;
+        let texts = Texts {
+            pattern: self.pattern,
+            at: from,
+        };
+        let passage = texts.pass();
+        let then = move_at(self.manner, passage.kind, item).ok_or(refused(Cause::NotExpected))?;
+        let long = passage.bytes;
+        let more = then.tail.len();
+        let room = STOCK_BYTES - self.stock.len();
+        if long > room || more > room - long {
+            return Err(refused(Cause::ChannelFull));
+        }
+        Ok(Plan { texts, then })
+    }
 }
 
 impl<'p> Sink for Text<'p> {
@@ -45,28 +72,19 @@ impl<'p> Sink for Text<'p> {
     ghost stock = { text_stock };
 
     fn would(&self, item: u32) -> Result<(), Fault> {
-        let _ = plan(self.pattern, self.manner, self.point, &self.stock, item)?;
+        self.plan(item)?;
         Ok(())
     }
 
     fn take(&mut self, item: u32) -> Result<(), Fault> {
-        let Plan { from, next, tail } = plan(
-            self.pattern,
-            self.manner,
-            self.point,
-            &self.stock,
-            item,
-        )?;
-        pass_into(self.pattern, from, &mut self.stock);
-        let _ = self.stock.append(tail.as_slice());
-        self.point = next;
+        let Plan { texts, then } = self.plan(item)?;
+        texts.append_to(&mut self.stock);
+        self.stock.append(&then.tail).unwrap();
+        self.point = then.next;
         Ok(())
     }
 
     fn pour(&mut self, channel: u32, buffer: &mut [u8]) -> Result<usize, Fault> {
-        if channel != 0 {
-            return Err(refused(Cause::NoChannel));
-        }
-        self.stock.pour(buffer)
+        self.stock.pour_channel(channel, buffer)
     }
 }

@@ -1,33 +1,41 @@
-use Rattle.std.proofs.Common.{◌≡◌, ℕ, List, [], ◌++◌, length, sym, ap, ◌∙◌, arith, length-append}
-use Rattle.pattern.specs.Patterns.{points_of, text_of}
+use Rattle.std.proofs.Common.{◌≡◌, ℕ, cond, List, [], ◌++◌, length, is_ok, Result, ap, ◌∙◌, ap₂, append_assoc, arith, length-append}
+use Rattle.fault.specs.declared.refusal.Fault.{Fault}
 use Rattle.sink.specs.Held.{held}
 use Rattle.sink.specs.Meaning.{alone}
-use Rattle.text.specs.Passing.{passed}
 use Rattle.text.specs.TextMeaning.{text_added}
-use Rattle.text.specs.TextState.{place_in}
-use Rattle.text.proofs.Taking.{alone_grown, both_added}
+use Rattle.text.specs.TextState.{text_position}
+use Rattle.text.specs.Texts.{bytes_left}
+use Rattle.text.proofs.Taking.{taken_in, alone_grown}
 use Rattle.text.proofs.text.TextSink.take.Goals as goal
 
-pub pass_into-requires : goal.pass_into-requires
-pass_into-requires c =
-    let plan = c.in_ok-from.ensures in
+pub append_to-requires : goal.append_to-requires
+append_to-requires c =
+    let plan = c.in_ok-texts.ensures in
     omega (arith, plan.fits, simp length-append at (ap length plan.adds))
 
-pub returns : goal.returns
-returns c =
-    let plan = c.in_ok-from.ensures in
-    let s = c.args.self.now in
-    let p = s.pattern.now in
-    let h = held s.stock in
-    let all = text_added (place_in p s.manner s.point) c.args.item in
-    let texts = passed (points_of p) (text_of p) c.in_ok-from.field-0.from in
-    let t = c.as_slice.result.now in
-    let joined : texts ++ t ≡ all = ap (λ (z : List ℕ). texts ++ z) c.as_slice.ensures ∙ plan.adds in
-    let after : held c.append.new.self ≡ h ++ all =
-    both_added h texts t all (held c.pass_into.new.stock) (held c.append.new.self)
-    c.append.result joined plan.fits c.pass_into.ensures c.append.ensures.room c.append.ensures.after in
-    record {
-      answer = sym plan.taken;
-      moved = plan.goes;
-      stocked = ap (λ (z : List ℕ). alone z []) after ∙ alone_grown h all;
-    }
+pub unwrap-requires : goal.unwrap-requires
+unwrap-requires c =
+    let plan = c.in_ok-texts.ensures in
+    taken_in (held c.append_to.new.stock) c.deref.result.now c.append.result
+    (omega (
+      arith,
+      plan.fits,
+      simp length-append at (ap length plan.adds),
+      simp length-append at (ap length c.append_to.ensures),
+      ap length c.deref.ensures.0,
+    ))
+    c.append.ensures.answer
+
+pub returns-clause-stocked : goal.returns-clause-stocked
+returns-clause-stocked c =
+    let plan = c.in_ok-texts.ensures in
+    let h = held c.args.self.now.stock in
+    let both : held c.append_to.new.stock ++ c.deref.result.now ≡ h ++ text_added (text_position c.args.self.now) c.args.item =
+    ap₂ (λ (x y : List ℕ). x ++ y) c.append_to.ensures c.deref.ensures.0
+    ∙ append_assoc h (bytes_left c.in_ok-texts.field-0.texts) c.in_ok-texts.field-0.then.tail.items
+    ∙ ap (λ (x : List ℕ). h ++ x) plan.adds in
+    let after : held c.append.new.self ≡ h ++ text_added (text_position c.args.self.now) c.args.item =
+    c.append.ensures.after
+    ∙ ap (λ (r : Result (Unit {0}) Fault). cond (is_ok r) (held c.append_to.new.stock ++ c.deref.result.now) (held c.append_to.new.stock)) c.unwrap.ensures
+    ∙ both in
+    ap (λ (x : List ℕ). alone x []) after ∙ alone_grown h (text_added (text_position c.args.self.now) c.args.item)
