@@ -12,7 +12,7 @@ use Rattle.pattern.specs.Expressions.{Expr, size}
 use Rattle.pattern.specs.Points.{start, step_at}
 use Rattle.pattern.specs.Patterns.{entry_of, Is}
 use Rattle.pattern.proofs.Tables.{length_table}
-use Rattle.walk.specs.Graphs.{steps, none, ClassesBelow}
+use Rattle.walk.specs.Graphs.{steps, none, ClassesBelow, graph_of, LacksClass}
 use Rattle.walk.specs.Codes.{Code, Begins}
 use Rattle.walk.specs.Walks.{Allowed}
 use Rattle.walk.specs.Theorems.{GreedyIn}
@@ -23,7 +23,7 @@ use Rattle.sink.specs.Writing.{taken_items}
 use Rattle.sink.proofs.Filing.{all_items}
 use Rattle.replay.specs.Bits.{Bytes, bits_of}
 use Rattle.replay.specs.Tracing.{Verdict, complete, broken, Traces}
-use Rattle.replay.specs.Outcome.{graph, reads_in, placed, answer, Unknown, Outcome, Barred, Led, Replays}
+use Rattle.replay.specs.Outcome.{reads_in, placed, answer, Outcome, Barred, Led, Replays}
 use Rattle.replay.specs.Theorems.{marked, Filed, Took, Follows, FollowsAll, WalksIn, Walks, ReplayOne, TraceComputed, TracesSome}
 use Rattle.replay.proofs.Graphs.{LeadsWithin, end_of, end_small, leads_within, start_within, only_end, is_end}
 use Rattle.replay.proofs.Tracing.{tracing}
@@ -113,7 +113,7 @@ pub record SoundGraph (at : ℕ → Step) (from end : ℕ) : Type 0 where
   pub is_end : at end ≡ End
 
 module _ (P : Pattern) (e : Expr) (h : Is P e) where
-  same_graph : graph P ≡ steps e
+  same_graph : graph_of P ≡ steps e
   same_graph = ap step_at h.points
 
   same_end : end_of P ≡ size e
@@ -128,7 +128,7 @@ module _ (P : Pattern) (e : Expr) (h : Is P e) where
 
   module _ {Symbol : Type 0} (L : Letters Symbol) where
     pub replays_in : (bytes : List ℕ) (w : List Symbol) (m : Meaning) (p : m.Position) (s : Stocks) (r : Result ℕ Fault) (p' : m.Position) (s' : Stocks) →
-        Replays L (graph P) (entry_of P) bytes w m p s r p' s' → Replays L (steps e) (start e) bytes w m p s r p' s'
+        Replays L (graph_of P) (entry_of P) bytes w m p s r p' s' → Replays L (steps e) (start e) bytes w m p s r p' s'
     replays_in bytes w m p s r p' s' x =
         subst (λ (n : ℕ). Replays L (steps e) n bytes w m p s r p' s') h.entry
         (subst (λ (at : ℕ → Step). Replays L at (entry_of P) bytes w m p s r p' s') same_graph x)
@@ -153,7 +153,7 @@ module _ {Symbol : Type 0} (L : Letters Symbol) (e : Expr) (sound : SoundGraph (
       let path = subst (λ (q : ℕ). Allowed L (steps e) (start e) w q t.code) l (path_allowed L (steps e) t.way) in
       (t.code, record { walk = path; packs = packs bytes (choices t.code) t.rest each t.bits t.filling }, t.marked)
 
-  module _ (bytes : List ℕ) (w : List Symbol) (m : Meaning) (p : m.Position) (s : Stocks) (r : Result ℕ Fault) (p' : m.Position) (s' : Stocks) (each : (n : ℕ) → r ≡ Ok n → Bytes bytes)
+  module _ (bytes : List ℕ) (w : List Symbol) (m : Meaning) (p : m.Position) (s : Stocks) (r : Result ℕ Fault) (p' : m.Position) (s' : Stocks) (each : Bytes bytes)
       (x : Led L (steps e) (start e) bytes w m p s r p' s') where
     -- the bytes of a walk are traced as its code
     traced_so : (c : Code) → Filed L e bytes w c → (x.code ≡ marked c) × (x.verdict ≡ complete)
@@ -174,7 +174,7 @@ module _ {Symbol : Type 0} (L : Letters Symbol) (e : Expr) (sound : SoundGraph (
     pub accepted_so : (n : ℕ) → r ≡ Ok n → (c : Code) × Filed L e bytes w c × (n ≡ length c + 1) × Took L e bytes w m p s r p' s' (marked c)
     accepted_so n k =
         let h = accepted_by (hand_answer m p s x.code) (taken_items m p s x.code) x.code x.verdict n (sym k ∙ x.outcome.answers) in
-        let t = traces_filed bytes (each n k) w x.code x.verdict x.traces h.1 in
+        let t = traces_filed bytes each w x.code x.verdict x.traces h.1 in
         (t.0, t.1, h.2 ∙ ap length t.2 ∙ length_marked t.0, took_all (marked t.0) t.2 h.0)
 
     begins_so : (c : Code) → Filed L e bytes w c → (d : Code) × Begins (marked c) d × Took L e bytes w m p s r p' s' d × ((n : ℕ) → r ≡ Ok n → d ≡ marked c)
@@ -232,7 +232,7 @@ ok_err : {X : Type 0} (r : Result ℕ Fault) (n : ℕ) (f : Fault) → r ≡ Ok 
 ok_err r n f x y = let z : ◌≡◌ {A = ℕ} 0 1 = cc in absurd (omega arith)
 
 -- a class is known or not
-not_unknown : (count : ℕ) (at : ℕ → Step) → ClassesBelow count at → Unknown count at → ⊥
+not_unknown : (count : ℕ) (at : ℕ → Step) → ClassesBelow count at → LacksClass count at → ⊥
 not_unknown count at known u = let l = known u.0 u.1 u.2 u.3 in omega (arith, l, u.4)
 
 pub known_not : {Symbol : Type 0} (L : Letters Symbol) (at : ℕ → Step) (m : Meaning) (p : m.Position) (s : Stocks) (r : Result ℕ Fault) (p' : m.Position) (s' : Stocks) →
@@ -241,7 +241,7 @@ known_not L at m p s r p' s' known x = not_unknown L.classes at known x.unknown
 
 module _ {Symbol : Type 0} (L : Letters Symbol) (P : Pattern) where
   pub replay_walks : (bytes : List ℕ) (w : List Symbol) (m : Meaning) (p : m.Position) (s : Stocks) (r : Result ℕ Fault) (p' : m.Position) (s' : Stocks) →
-      ((n : ℕ) → r ≡ Ok n → Bytes bytes) → Replays L (graph P) (entry_of P) bytes w m p s r p' s' → Walks L P bytes w m p s r p' s'
+      Bytes bytes → Replays L (graph_of P) (entry_of P) bytes w m p s r p' s' → Walks L P bytes w m p s r p' s'
   replay_walks bytes w m p s r p' s' each x e h = go (replays_in P e h L bytes w m p s r p' s' x)
     where
       go : Replays L (steps e) (start e) bytes w m p s r p' s' → WalksIn L e bytes w m p s r p' s'
@@ -258,26 +258,26 @@ module _ {Symbol : Type 0} (L : Letters Symbol) (P : Pattern) where
 
   -- what an accepted replay handed over
   pub replay_accepted : (e : Expr) → Is P e → (bytes : List ℕ) → Bytes bytes → (w : List Symbol) (m : Meaning) (p : m.Position) (s : Stocks) (r : Result ℕ Fault) (p' : m.Position) (s' : Stocks) →
-      Replays L (graph P) (entry_of P) bytes w m p s r p' s' → (n : ℕ) → r ≡ Ok n → (c : Code) × Filed L e bytes w c × (n ≡ length c + 1) × Took L e bytes w m p s r p' s' (marked c)
+      Replays L (graph_of P) (entry_of P) bytes w m p s r p' s' → (n : ℕ) → r ≡ Ok n → (c : Code) × Filed L e bytes w c × (n ≡ length c + 1) × Took L e bytes w m p s r p' s' (marked c)
   replay_accepted e h bytes each w m p s r p' s' x n k = go (replays_in P e h L bytes w m p s r p' s' x)
     where
       go : Replays L (steps e) (start e) bytes w m p s r p' s' → (c : Code) × Filed L e bytes w c × (n ≡ length c + 1) × Took L e bytes w m p s r p' s' (marked c)
       go (inl y) = ok_err r n _ k y.answers
-      go (inr y) = accepted_so L e (sound_graph P e h) bytes w m p s r p' s' (λ n k. each) y n k
+      go (inr y) = accepted_so L e (sound_graph P e h) bytes w m p s r p' s' each y n k
 
   pub replay_one : (m : Meaning) → ReplayOne L P m
   replay_one m bytes w p s r t p' p'' s' s'' (inl x) (inl y) = (x.answers ∙ sym y.answers, x.stays ∙ sym y.stays, x.keeps ∙ sym y.keeps)
-  replay_one m bytes w p s r t p' p'' s' s'' (inl x) (inr y) = absurd (known_not L (graph P) m p s r p' s' y.known x)
-  replay_one m bytes w p s r t p' p'' s' s'' (inr x) (inl y) = absurd (known_not L (graph P) m p s t p'' s'' x.known y)
+  replay_one m bytes w p s r t p' p'' s' s'' (inl x) (inr y) = absurd (known_not L (graph_of P) m p s r p' s' y.known x)
+  replay_one m bytes w p s r t p' p'' s' s'' (inr x) (inl y) = absurd (known_not L (graph_of P) m p s t p'' s'' x.known y)
   replay_one m bytes w p s r t p' p'' s' s'' (inr x) (inr y) =
-      let h = one_trace L (graph P) (bits_of bytes) w none (entry_of P) x.code y.code x.verdict y.verdict x.traces y.traces in (
+      let h = one_trace L (graph_of P) (bits_of bytes) w none (entry_of P) x.code y.code x.verdict y.verdict x.traces y.traces in (
         x.outcome.answers ∙ ap₂ (λ (c : Code) (v : Verdict). answer (hand_answer m p s c) (taken_items m p s c) c v) h.0 h.1 ∙ sym y.outcome.answers,
         x.outcome.moved ∙ ap (λ (c : Code). moved_by m p (taken_items m p s c)) h.0 ∙ sym y.outcome.moved,
         x.outcome.stocked ∙ ap (λ (c : Code). grown_by m p s (taken_items m p s c)) h.0 ∙ sym y.outcome.stocked,
       )
 
   pub traces_some : TracesSome L P
-  traces_some bs w = tracing L (graph P) (end_of P) (end_small P) (leads_within P) bs w none (entry_of P) (start_within P)
+  traces_some bs w = tracing L (graph_of P) (end_of P) (end_small P) (leads_within P) bs w none (entry_of P) (start_within P)
 
 pub trace_computed : {Symbol : Type 0} (L : Letters Symbol) → TraceComputed L
 trace_computed L at bs w met p c v = (λ x. tells L at x, λ t. traced L at t.0 bs w met p c v (t.1 t.0 (omega arith)))

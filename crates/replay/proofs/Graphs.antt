@@ -1,5 +1,5 @@
 -- The points of a pattern lead to points of it or to its end point.
-use Rattle.std.proofs.Common.{◌≡◌, ℕ, ◌<◌, ◌≤◌, length, get_or, Some, sym, ap, ◌∙◌, subst, inl, inr, arith}
+use Rattle.std.proofs.Common.{◌≡◌, ℕ, ◌≤◌, length, get_or, Some, ap, ◌∙◌, subst, inl, inr, arith}
 use mathlib.Core.Logic.{∥∥₁_elim}
 use native.Mathlib.Bridge.{le_prop}
 use Rattle.std.proofs.lemmas.Option.{slice_get_past}
@@ -14,7 +14,7 @@ use Rattle.pattern.specs.Patterns.{points_of, entry_of, Leads}
 use Rattle.pattern.specs.Expressions.{size}
 use Rattle.pattern.proofs.Tables.{length_table}
 use Rattle.pattern.proofs.Links.{count_points, entry_within, point_at, none_at, leads_at}
-use Rattle.replay.specs.Outcome.{graph}
+use Rattle.walk.specs.Graphs.{graph_of}
 
 -- each link of what a point is to a walk is at most n
 abbrev pub LeadsWithin : ℕ → Step → Type 0
@@ -44,7 +44,7 @@ module _ (P : Pattern) where
   pub start_within : entry_of P ≤ end_of P
   start_within = omega (arith, count_points P, entry_within P)
 
-  pub leads_within : (i : ℕ) → LeadsWithin (end_of P) (graph P i)
+  pub leads_within : (i : ℕ) → LeadsWithin (end_of P) (graph_of P i)
   leads_within i =
       elim (cases_lt i P.count) [
         | inl l ↦
@@ -60,20 +60,12 @@ not_end (point.Choice a b) e = let z : ◌≡◌ {A = ℕ} 0 1 = cc in omega ari
 not_end (point.Star a b) e = let z : ◌≡◌ {A = ℕ} 0 1 = cc in omega arith
 
 -- there is one end point
-pub only_end : (P : Pattern) (q : ℕ) → q ≤ end_of P → graph P q ≡ End → q ≡ end_of P
+pub only_end : (P : Pattern) (q : ℕ) → q ≤ end_of P → graph_of P q ≡ End → q ≡ end_of P
 only_end P q l e =
     elim (cases_lt q P.count) [
       | inl k ↦ absurd (not_end (get_or P.points q blank) (ap step_of (point_at P q blank k) ∙ e))
       | inr k ↦ omega (arith, count_points P)
     ]
 
-pub is_end : (P : Pattern) → graph P (end_of P) ≡ End
+pub is_end : (P : Pattern) → graph_of P (end_of P) ≡ End
 is_end P = ap step_of (slice_get_past (points_of P) (end_of P) (omega arith))
-
--- no point past the end reads
-pub read_here : (P : Pattern) (p class k : ℕ) → graph P p ≡ Read class k → p < end_of P
-read_here P p class k e =
-    elim (cases_lt p (end_of P)) [
-      | inl l ↦ l
-      | inr l ↦ let f = ap step_of (sym (slice_get_past (points_of P) p l)) ∙ e in let z : ◌≡◌ {A = ℕ} 0 1 = cc in absurd (omega arith)
-    ]

@@ -4,6 +4,8 @@ pub mod Tracing
 pub mod Telling
 pub mod Walked
 pub mod Turning
+pub mod Playing
+pub mod Courses
 pub mod Looping
 pub mod Packing
 pub mod Follow

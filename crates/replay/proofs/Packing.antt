@@ -1,8 +1,7 @@
 -- The bits of packed choices are the choices and a filling, and no other bytes have these bits.
-use Rattle.std.proofs.Common.{◌≡◌, ℕ, zero, suc, ◌+◌, ◌-◌, ◌*◌, ◌<◌, ◌≤◌, Bool, true, false, cond, ◌&&◌, T, eqb, ltb, List, [], ◌∷◌, ◌++◌, length, get_or, take, replicate, sym, refl, ap, ◌∙◌, subst, ap₂, inl, inr, append_assoc, append-nil, arith, eqb→eq, length-append}
+use Rattle.std.proofs.Common.{◌≡◌, ℕ, zero, suc, ◌+◌, ◌-◌, ◌*◌, ◌<◌, ◌≤◌, Bool, true, false, cond, ◌&&◌, T, eqb, ltb, List, [], ◌∷◌, ◌++◌, length, get_or, Fits, w8, replicate, sym, refl, ap, ◌∙◌, subst, ap₂, inl, inr, append_assoc, append-nil, arith, eqb→eq, length-append}
 use lib.Dec.{eqb_refl}
 use lib.ListN.{length-replicate}
-use Rattle.std.proofs.lemmas.List.{take_more, take_all}
 use Rattle.std.proofs.lemmas.Bool.{cases_lt, cases_eq, ltb-true, lt-ltb}
 use Rattle.std.proofs.lemmas.Bool.Decides.{nat_tests}
 use Rattle.walk.proofs.Order.{T_true, never_both}
@@ -115,19 +114,10 @@ bytes_first x xs h = ltb-true x 256 (both_true (ltb x 256) (all_bytes xs) h).0
 bytes_rest : (x : ℕ) (xs : List ℕ) → Bytes (x ∷ xs) → Bytes xs
 bytes_rest x xs h = (both_true (ltb x 256) (all_bytes xs) h).1
 
-bytes_append : (xs ys : List ℕ) → Bytes xs → Bytes ys → Bytes (xs ++ ys)
-bytes_append [] ys h k = k
-bytes_append (x ∷ xs) ys h k = bytes_cons x (xs ++ ys) (bytes_first x xs h) (bytes_append xs ys (bytes_rest x xs h) k)
-
--- one byte more is read
-pub bytes_more : (xs : List ℕ) (n b : ℕ) → Bytes (take n xs) → n < length xs → b ≡ get_or xs n 0 → b < 256 → Bytes (take (n + 1) xs)
-bytes_more xs n b h l e k =
-    subst Bytes (sym (take_more xs n 0 l))
-    (bytes_append (take n xs) (get_or xs n 0 ∷ []) h (bytes_cons (get_or xs n 0) [] (subst (λ (v : ℕ). v < 256) e k) refl))
-
--- all are read
-pub bytes_all : (xs : List ℕ) (n : ℕ) → Bytes (take n xs) → length xs ≤ n → Bytes xs
-bytes_all xs n h l = subst Bytes (take_all n xs l) h
+-- each number fits a byte
+pub all_fit : (xs : List ℕ) → ((i : ℕ) → Fits w8 (get_or xs i 0)) → Bytes xs
+all_fit [] h = refl
+all_fit (x ∷ xs) h = bytes_cons x xs (let l : Fits w8 x = h 0 in omega (arith, l)) (all_fit xs (λ i. h (suc i)))
 
 -- packing
 

@@ -105,7 +105,7 @@ module _ {Symbol : Type 0} (L : Letters Symbol) (P : Pattern) where
       let c = y.0 in
       let n = pair_meaning bits_meaning m in
       let bytes = packed (choices g) in
-      let f = (replay_walks L P bytes w n (unfilled [], q) (pair_stocks nothing t) r p s (λ n k. (unpacked (choices g)).bytes) x e h).any known in
+      let f = (replay_walks L P bytes w n (unfilled [], q) (pair_stocks nothing t) r p s (unpacked (choices g)).bytes x e h).any known in
       let o = subst (λ (d : Code). Outcome n (unfilled [], q) (pair_stocks nothing t) d complete r p s) (sym y.2) (f.hands c (greedy_filed e w g y)) in
       let k = outcome_whole n (unfilled [], q) (pair_stocks nothing t) g r p s o all in
       let bits = (each_taken bits_meaning m (unfilled []) q nothing t g all).0 in

@@ -1,5 +1,6 @@
 -- What is traced is a function of the bits and the symbols.
 use Rattle.std.proofs.Common.{◌≡◌, ℕ, zero, suc, ◌+◌, ◌≤◌, Bool, true, false, List, [], ◌∷◌, sym, refl, ap, ◌∙◌, subst, ap₂, arith}
+use Rattle.std.proofs.lemmas.Bool.{false_from_ne_true}
 use Rattle.walk.specs.Graphs.{Points, none, add}
 use Rattle.pattern.specs.declared.step.Step.{Step}
 use Rattle.pattern.specs.declared.step.Step.TheVariants.{Read, Pass, Fork, End}
@@ -9,23 +10,7 @@ use Rattle.alphabet.specs.Meaning.{Meaning}
 use Rattle.alphabet.specs.Items.{read_item, end_mark}
 use Rattle.replay.specs.Tracing.{Verdict, complete, broken, Traces, again, over, first, second, no_bit, reads, outside, no_symbol, ends, symbols_left, bits_left}
 use Rattle.replay.specs.Computed.{Told, told, untold, more, few, if_so, visit, trace}
-use Rattle.replay.proofs.Unreading.{Few, few_is}
-
-few_test : (n : ℕ) (bs : List Bool) → Few n bs → few n bs ≡ true
-few_test n [] h = refl
-few_test zero (b ∷ bs) h = absurd h
-few_test (suc n) (true ∷ bs) h = absurd (never_both refl h.0)
-few_test (suc n) (false ∷ bs) h = few_test n bs h.1
-
-few_told : (n : ℕ) (bs : List Bool) → few n bs ≡ true → Few n bs
-few_told n [] h = tt
-few_told zero (b ∷ bs) h = absurd (never_both h refl)
-few_told (suc n) (true ∷ bs) h = absurd (never_both h refl)
-few_told (suc n) (false ∷ bs) h = (refl, few_told n bs h)
-
-few_no : (b : Bool) (n : ℕ) (bs : List Bool) → few n bs ≡ b → (Few n bs → ⊥) → b ≡ false
-few_no true n bs e h = absurd (h (few_told n bs e))
-few_no false n bs e h = refl
+use Rattle.replay.proofs.Unreading.{few_is}
 
 more_told : (t : Told) (i : ℕ) (c : Code) (v : Verdict) → more i t ≡ told c v → (d : Code) × (c ≡ i ∷ d) × (t ≡ told d v)
 more_told (told d u) i c v e = let x : c ≡ i ∷ d = cc in let y : u ≡ v = cc in (d, x, ap (told d) y)
@@ -67,10 +52,10 @@ module _ {Symbol : Type 0} (L : Meaning Symbol) (at : ℕ → Step) where
   tells (outside {bs = bs} {s = s} {w = w} {met = met} {p = p} {class = class} {k = k} e i y) =
       at_once bs (s ∷ w) met p [] broken false (Read class k) e i (λ g. ap (λ (b : Bool). if_so b (more (read_item (L.number s)) (trace L at g bs w none k))) y)
   tells (no_symbol {bs = bs} {met = met} {p = p} {class = class} {k = k} e i) = at_once bs [] met p [] broken false (Read class k) e i (λ g. refl)
-  tells (ends {bs = bs} {met = met} {p = p} e i f) = at_once bs [] met p (end_mark ∷ []) complete false End e i (λ g. ap (λ (b : Bool). if_so b (told (end_mark ∷ []) complete)) (few_test 7 bs ((few_is bs).1 f)))
+  tells (ends {bs = bs} {met = met} {p = p} e i f) = at_once bs [] met p (end_mark ∷ []) complete false End e i (λ g. ap (λ (b : Bool). if_so b (told (end_mark ∷ []) complete)) ((few_is bs).1 f))
   tells (symbols_left {bs = bs} {s = s} {w = w} {met = met} {p = p} e i) = at_once bs (s ∷ w) met p [] broken false End e i (λ g. refl)
   tells (bits_left {bs = bs} {met = met} {p = p} e i f) =
-      at_once bs [] met p [] broken false End e i (λ g. ap (λ (b : Bool). if_so b (told (end_mark ∷ []) complete)) (few_no (few 7 bs) 7 bs refl (λ h. f ((few_is bs).0 h))))
+      at_once bs [] met p [] broken false End e i (λ g. ap (λ (b : Bool). if_so b (told (end_mark ∷ []) complete)) (false_from_ne_true (few 7 bs) (λ h. f ((few_is bs).0 h))))
 
   -- only one thing is traced
   pub one_trace : (bs : List Bool) (w : List Symbol) (met : Points) (p : ℕ) (c d : Code) (u v : Verdict) → Traces L at bs w met p c u → Traces L at bs w met p d v → (c ≡ d) × (u ≡ v)
@@ -94,8 +79,8 @@ module _ {Symbol : Type 0} (L : Meaning Symbol) (at : ℕ → Step) where
   read_sound g ih false bs s w met p class k c v f e y h = told_is bs (s ∷ w) met p [] c broken v h (outside f e y)
 
   end_sound : (b : Bool) (bs : List Bool) (met : Points) (p : ℕ) (c : Code) (v : Verdict) → met p ≡ false → at p ≡ End → few 7 bs ≡ b → if_so b (told (end_mark ∷ []) complete) ≡ told c v → Traces L at bs [] met p c v
-  end_sound true bs met p c v f e y h = told_is bs [] met p (end_mark ∷ []) c complete v h (ends f e ((few_is bs).0 (few_told 7 bs y)))
-  end_sound false bs met p c v f e y h = told_is bs [] met p [] c broken v h (bits_left f e (λ z. never_both (few_test 7 bs ((few_is bs).1 z)) y))
+  end_sound true bs met p c v f e y h = told_is bs [] met p (end_mark ∷ []) c complete v h (ends f e ((few_is bs).0 y))
+  end_sound false bs met p c v f e y h = told_is bs [] met p [] c broken v h (bits_left f e (λ z. never_both ((few_is bs).1 z) y))
 
   visit_sound : (g : ℕ) → SoundAt g → (b : Bool) (x : Step) (bs : List Bool) (w : List Symbol) (met : Points) (p : ℕ) (c : Code) (v : Verdict) → met p ≡ b → at p ≡ x →
       visit L at b x bs w (add p met) (trace L at g) ≡ told c v → Traces L at bs w met p c v

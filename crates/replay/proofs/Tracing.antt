@@ -1,15 +1,18 @@
 -- The bits trace something from every point.
 use Rattle.std.proofs.Common.{◌≡◌, ℕ, zero, suc, ◌+◌, ◌*◌, ◌<◌, ◌≤◌, Bool, true, false, List, [], ◌∷◌, length, refl, inl, inr, arith}
+use Rattle.std.proofs.lemmas.Bool.{cases_Bool}
 use Rattle.walk.specs.Graphs.{Points, none, add}
 use Rattle.pattern.specs.declared.step.Step.{Step}
 use Rattle.pattern.specs.declared.step.Step.TheVariants.{Read, Pass, Fork, End}
 use Rattle.walk.specs.Codes.{Code}
+use Rattle.walk.proofs.Order.{never_both}
 use Rattle.walk.proofs.Fuel.{left, left_add, left_bound}
 use Rattle.alphabet.specs.Meaning.{Meaning}
 use Rattle.alphabet.specs.Items.{read_item, end_mark}
 use Rattle.replay.specs.Tracing.{Verdict, complete, broken, Traces, again, over, first, second, no_bit, reads, outside, no_symbol, ends, symbols_left, bits_left}
+use Rattle.replay.specs.Computed.{few}
 use Rattle.replay.proofs.Graphs.{LeadsWithin}
-use Rattle.replay.proofs.Unreading.{few_is, few_either}
+use Rattle.replay.proofs.Unreading.{few_is}
 
 module _ {Symbol : Type 0} (L : Meaning Symbol) (at : ℕ → Step) (n : ℕ) (small : n ≤ 255) (within : (p : ℕ) → LeadsWithin n (at p)) where
   abbrev pub Traced : List Bool → List Symbol → Points → ℕ → Type 0
@@ -38,9 +41,9 @@ module _ {Symbol : Type 0} (L : Meaning Symbol) (at : ℕ → Step) (n : ℕ) (s
   trace_point fuel ih bs (s ∷ w) met p false (Read class t) f e l k h = trace_read fuel ih bs s w met p class t (L.belongs class s) f e refl l h
   trace_point fuel ih bs (s ∷ w) met p false End f e l k h = ([], broken, symbols_left f e)
   trace_point fuel ih bs [] met p false End f e l k h =
-      elim (few_either 7 bs) [
+      elim (cases_Bool (few 7 bs)) [
         | inl y ↦ (end_mark ∷ [], complete, ends f e ((few_is bs).0 y))
-        | inr y ↦ ([], broken, bits_left f e (λ g. y ((few_is bs).1 g)))
+        | inr y ↦ ([], broken, bits_left f e (λ g. never_both ((few_is bs).1 g) y))
       ]
 
   trace_below : (fuel : ℕ) → Below fuel

@@ -4,5 +4,7 @@ pub mod Tracing
 pub mod Computed
 pub mod Outcome
 pub mod Stepping
+pub mod Playing
+pub mod Courses
 pub mod Theorems
 pub mod Refiling

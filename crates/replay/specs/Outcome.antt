@@ -1,30 +1,18 @@
 -- What a replay comes to: the items that the bits trace, handed to a sink one after another. Assumes nothing.
-use Rattle.std.specs.Prelude.{◌≡◌, ℕ, ◌+◌, ◌≤◌, cond, ◌&&◌, ◌⊎◌, List, [], ◌∷◌, length, Ok, Err, Result, nat_le}
+use Rattle.std.specs.Prelude.{◌≡◌, ℕ, ◌+◌, cond, ◌&&◌, ◌⊎◌, List, [], ◌∷◌, length, Ok, Err, Result, nat_le}
 use Rattle.fault.specs.declared.refusal.Fault.{Fault}
 use Rattle.fault.specs.declared.cause.Cause.{Cause}
 use Rattle.fault.specs.declared.cause.Cause.TheVariants.{NotAWalk, UnknownClass}
 use Rattle.alphabet.specs.Items.{first_read, last_read}
 use Rattle.alphabet.specs.Meaning.{Meaning as Letters}
 use Rattle.pattern.specs.declared.step.Step.{Step}
-use Rattle.pattern.specs.declared.step.Step.TheVariants.{Read}
-use Rattle.pattern.specs.declared.pattern.Pattern.{Pattern}
-use Rattle.pattern.specs.Points.{step_at}
-use Rattle.pattern.specs.Patterns.{points_of}
-use Rattle.walk.specs.Graphs.{none, ClassesBelow}
+use Rattle.walk.specs.Graphs.{none, ClassesBelow, LacksClass}
 use Rattle.walk.specs.Codes.{Code}
 use Rattle.sink.specs.Meaning.{Meaning, Stocks}
 use Rattle.sink.specs.Handing.{hand_answer}
 use Rattle.sink.specs.Writing.{taken_items, position_then, stocks_then}
 use Rattle.replay.specs.Bits.{bits_of}
 use Rattle.replay.specs.Tracing.{Verdict, complete, broken, Traces}
-
--- a pattern as a walk sees it
-abbrev pub graph : Pattern → ℕ → Step
-graph p = step_at (points_of p)
-
--- some point reads a class at or above the count
-abbrev pub Unknown : ℕ → (ℕ → Step) → Type 0
-Unknown count at = (p : ℕ) × (class : ℕ) × (k : ℕ) × (at p ≡ Read class k) × (count ≤ class)
 
 -- how many read items a list of items has
 abbrev pub reads_in : Code → ℕ
@@ -54,7 +42,7 @@ pub record Outcome (m : Meaning) (p : m.Position) (s : Stocks) (c : Code) (v : V
 
 -- a class of the pattern is unknown to the alphabet: 4, and nothing is handed over
 pub record Barred (at : ℕ → Step) (count : ℕ) (m : Meaning) (p : m.Position) (s : Stocks) (r : Result ℕ Fault) (p' : m.Position) (s' : Stocks) : Type 0 where
-  pub unknown : Unknown count at
+  pub unknown : LacksClass count at
   pub answers : r ≡ Err (placed UnknownClass 0)
   pub stays : p' ≡ p
   pub keeps : s' ≡ s

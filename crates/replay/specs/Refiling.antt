@@ -16,15 +16,16 @@ use Rattle.text.specs.declared.manner.Manner.{Manner}
 use Rattle.text.specs.TextMeaning as text
 use Rattle.text.specs.TextMeaning.{TextPosition, text_meaning, text_of_items}
 use Rattle.text.specs.TextState.{start_of}
+use Rattle.walk.specs.Graphs.{graph_of}
 use Rattle.replay.specs.Bits.{Bytes}
-use Rattle.replay.specs.Outcome.{graph, Replays}
+use Rattle.replay.specs.Outcome.{Replays}
 use Rattle.replay.specs.Theorems.{Filed, marked}
 
 module _ {Symbol : Type 0} (L : Letters Symbol) (P : Pattern) where
   -- an accepted replay of bytes into a fresh sink of bits leaves it ended, with these bytes as its stock
   abbrev pub Refiles : Type 0
   Refiles = (e : Expr) → Is P e → (bytes : List ℕ) → Bytes bytes → (w : List Symbol) (r : Result ℕ Fault) (p : BitsPosition) (s : Stocks) →
-      Replays L (graph P) (entry_of P) bytes w bits_meaning (unfilled []) nothing r p s → (n : ℕ) → r ≡ Ok n →
+      Replays L (graph_of P) (entry_of P) bytes w bits_meaning (unfilled []) nothing r p s → (n : ℕ) → r ≡ Ok n →
       (p ≡ ended) × (s ≡ alone bytes [])
 
   -- an accepted replay into a pair of a fresh sink of bits and any other sink, at q with the stocks t, leaves these bytes and what the other makes of the walk's code and the end mark
@@ -37,7 +38,7 @@ module _ {Symbol : Type 0} (L : Letters Symbol) (P : Pattern) where
 
   abbrev pub RefilesBeside : (m : Meaning) → Type 0
   RefilesBeside m = (e : Expr) → Is P e → (bytes : List ℕ) → Bytes bytes → (w : List Symbol) (q : m.Position) (t : Stocks) (r : Result ℕ Fault) (p : BitsPosition × m.Position) (s : Stocks) →
-      Replays L (graph P) (entry_of P) bytes w (pair_meaning bits_meaning m) (unfilled [], q) (pair_stocks nothing t) r p s → (n : ℕ) → r ≡ Ok n →
+      Replays L (graph_of P) (entry_of P) bytes w (pair_meaning bits_meaning m) (unfilled [], q) (pair_stocks nothing t) r p s → (n : ℕ) → r ≡ Ok n →
       LeftBeside e bytes w m q t n p s
 
   -- The bits of a greedy code replayed so, where the pair takes the greedy code: it is handed over whole, and leaves the same bits and what the other sink makes of it.
@@ -49,7 +50,7 @@ module _ {Symbol : Type 0} (L : Letters Symbol) (P : Pattern) where
   abbrev pub RefilesGreedy : (m : Meaning) → Type 0
   RefilesGreedy m = (e : Expr) → Is P e → WithinClasses L e → (w : List Symbol) (g : Code) → GreedyIn L e w g → (q : m.Position) (t : Stocks) →
       all_taken (pair_meaning bits_meaning m) (unfilled [], q) (pair_stocks nothing t) g ≡ true → (r : Result ℕ Fault) (p : BitsPosition × m.Position) (s : Stocks) →
-      Replays L (graph P) (entry_of P) (packed (choices g)) w (pair_meaning bits_meaning m) (unfilled [], q) (pair_stocks nothing t) r p s → LeftGreedy m q t g r p s
+      Replays L (graph_of P) (entry_of P) (packed (choices g)) w (pair_meaning bits_meaning m) (unfilled [], q) (pair_stocks nothing t) r p s → LeftGreedy m q t g r p s
 
   -- with a fresh sink of text over the same pattern as the other: the same bits, and the text of the greedy walk
   pub record LeftText (manner : Manner) (g : Code) (r : Result ℕ Fault) (p : BitsPosition × TextPosition) (s : Stocks) : Type 0 where
@@ -60,4 +61,4 @@ module _ {Symbol : Type 0} (L : Letters Symbol) (P : Pattern) where
   abbrev pub RefilesText : Type 0
   RefilesText = (e : Expr) → Is P e → WithinClasses L e → (w : List Symbol) (g : Code) → GreedyIn L e w g → (manner : Manner) →
       all_taken (pair_meaning bits_meaning text_meaning) (unfilled [], start_of P manner) (pair_stocks nothing nothing) g ≡ true → (r : Result ℕ Fault) (p : BitsPosition × TextPosition) (s : Stocks) →
-      Replays L (graph P) (entry_of P) (packed (choices g)) w (pair_meaning bits_meaning text_meaning) (unfilled [], start_of P manner) (pair_stocks nothing nothing) r p s → LeftText manner g r p s
+      Replays L (graph_of P) (entry_of P) (packed (choices g)) w (pair_meaning bits_meaning text_meaning) (unfilled [], start_of P manner) (pair_stocks nothing nothing) r p s → LeftText manner g r p s

@@ -10,7 +10,7 @@ use Rattle.pattern.specs.declared.pattern.Pattern.{Pattern}
 use Rattle.pattern.specs.Expressions.{Expr, size}
 use Rattle.pattern.specs.Points.{start}
 use Rattle.pattern.specs.Patterns.{entry_of, Is}
-use Rattle.walk.specs.Graphs.{Points, steps, none}
+use Rattle.walk.specs.Graphs.{Points, steps, none, graph_of, LacksClass}
 use Rattle.walk.specs.Codes.{Code, Begins}
 use Rattle.walk.specs.Theorems.{AllowedIn, GreedyIn, WithinClasses}
 use Rattle.sink.specs.Meaning.{Meaning, Stocks}
@@ -18,7 +18,7 @@ use Rattle.sink.specs.Handing.{moved_by, grown_by, all_taken}
 use Rattle.replay.specs.Bits.{bits_of}
 use Rattle.replay.specs.Tracing.{Verdict, complete, Traces}
 use Rattle.replay.specs.Computed.{told, trace}
-use Rattle.replay.specs.Outcome.{graph, Unknown, placed, Outcome, Replays}
+use Rattle.replay.specs.Outcome.{placed, Outcome, Replays}
 
 -- a code with the end mark
 abbrev pub marked : Code → Code
@@ -72,7 +72,7 @@ module _ {Symbol : Type 0} (L : Letters Symbol) (e : Expr) where
 -- What is known of a replay, for the expression e of the pattern.
 pub record WalksIn {Symbol : Type 0} (L : Letters Symbol) (e : Expr) (bytes : List ℕ) (w : List Symbol) (m : Meaning) (p : m.Position) (s : Stocks) (r : Result ℕ Fault) (p' : m.Position) (s' : Stocks) : Type 0 where
   -- where the alphabet lacks a class of it: 4, and nothing is handed over
-  pub unknown : Unknown L.classes (steps e) → (r ≡ Err (placed UnknownClass 0)) × (p' ≡ p) × (s' ≡ s)
+  pub unknown : LacksClass L.classes (steps e) → (r ≡ Err (placed UnknownClass 0)) × (p' ≡ p) × (s' ≡ s)
   -- where it has them all: into any sink, and into one that takes all that it is handed
   pub any : WithinClasses L e → Follows L e bytes w m p s r p' s'
   pub all : WithinClasses L e → TakesAll L e bytes w m p s → FollowsAll L e bytes w m p s r p' s'
@@ -83,7 +83,7 @@ Walks L P bytes w m p s r p' s' = (e : Expr) → Is P e → WalksIn L e bytes w 
 -- an input has one outcome
 abbrev pub ReplayOne : {Symbol : Type 0} → Letters Symbol → Pattern → (m : Meaning) → Type 0
 ReplayOne {Symbol} L P m = (bytes : List ℕ) (w : List Symbol) (p : m.Position) (s : Stocks) (r t : Result ℕ Fault) (p' p'' : m.Position) (s' s'' : Stocks) →
-    Replays L (graph P) (entry_of P) bytes w m p s r p' s' → Replays L (graph P) (entry_of P) bytes w m p s t p'' s'' → (r ≡ t) × (p' ≡ p'') × (s' ≡ s'')
+    Replays L (graph_of P) (entry_of P) bytes w m p s r p' s' → Replays L (graph_of P) (entry_of P) bytes w m p s t p'' s'' → (r ≡ t) × (p' ≡ p'') × (s' ≡ s'')
 
 -- what bits trace is what the function computes, given fuel enough
 abbrev pub TraceComputed : {Symbol : Type 0} → Letters Symbol → Type 0
@@ -92,4 +92,4 @@ TraceComputed {Symbol} L = (at : ℕ → Step) (bs : List Bool) (w : List Symbol
 
 -- in a pattern any bits trace something over any symbols
 abbrev pub TracesSome : {Symbol : Type 0} → Letters Symbol → Pattern → Type 0
-TracesSome {Symbol} L P = (bs : List Bool) (w : List Symbol) → (c : Code) × (v : Verdict) × Traces L (graph P) bs w none (entry_of P) c v
+TracesSome {Symbol} L P = (bs : List Bool) (w : List Symbol) → (c : Code) × (v : Verdict) × Traces L (graph_of P) bs w none (entry_of P) c v

@@ -1,4 +1,0 @@
-pub mod Turning
-pub mod Playing
-pub mod Courses
-pub mod Looping

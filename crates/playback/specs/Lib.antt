@@ -1,3 +1,0 @@
-pub mod Unread
-pub mod Playing
-pub mod Courses
