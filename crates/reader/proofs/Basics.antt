@@ -1,6 +1,8 @@
 -- Marks, lists, and walks whose codes the tree holds.
-use Rattle.std.proofs.Common.{◌≡◌, ℕ, zero, suc, ◌+◌, ◌<◌, ◌≤◌, Bool, true, false, cond, eqb, ◌⊎◌, ◌↔◌, List, [], ◌∷◌, ◌++◌, length, get_or, take, set, replicate, sym, refl, ap, ◌∙◌, subst, inl, inr, append_assoc, le_of_suc-le-suc, not-suc-le-zero, arith, eqb→eq, length-append, get_or-set_other, get_or-set_same}
+use Rattle.std.proofs.Common.{◌≡◌, ℕ, zero, suc, ◌+◌, ◌<◌, ◌≤◌, Bool, true, false, cond, eqb, ◌⊎◌, ◌↔◌, List, [], ◌∷◌, ◌++◌, length, get_or, set, replicate, sym, refl, ap, ◌∙◌, subst, inl, inr, append_assoc, le_of_suc-le-suc, not-suc-le-zero, arith, eqb→eq, length-append, get_or-set_other, get_or-set_same}
 use mathlib.Core.Path.{fun_ext}
+use Rattle.std.specs.Prelude.{◌==◌, Some, find, is_some}
+use Rattle.std.proofs.lemmas.Bool.{cases_eq, eq-eqb, ne_eqb}
 use lib.Dec.{eqb_refl}
 use Rattle.point_set.specs.declared.set.PointSet.{PointSet}
 use Rattle.point_set.specs.Members.{members, point_count}
@@ -55,18 +57,6 @@ pub marks_more : (m m' : PointSet) (p : ℕ) → p < point_count → members m' 
 marks_more m m' p h f =
     let l = all_points m in
     ap flag_set f ∙ set_add (members m) p (omega (arith, l, h))
-
--- a marked point is marked again
-set_same : (bs : List Bool) (p : ℕ) → get_or bs p false ≡ true → set bs p true ≡ bs
-set_same [] p e = refl
-set_same (b ∷ bs) zero e = ap (λ (c : Bool). c ∷ bs) (sym e)
-set_same (b ∷ bs) (suc p) e = ap (λ (cs : List Bool). b ∷ cs) (set_same bs p e)
-
-pub unmarked_same : (m m' : PointSet) (p : ℕ) → get_or (members m) p false ≡ true → members m' ≡ set (members m) p true → unmarked m' ≡ unmarked m
-unmarked_same m m' p e f = ap unset (f ∙ set_same (members m) p e)
-
-pub marks_same : (m m' : PointSet) (p : ℕ) → get_or (members m) p false ≡ true → members m' ≡ set (members m) p true → marked m' ≡ marked m
-marks_same m m' p e f = ap flag_set (f ∙ set_same (members m) p e)
 
 -- none is
 all_false : (n k : ℕ) → get_or (replicate n false) k false ≡ false
@@ -161,9 +151,22 @@ on_split (v ∷ ws) w q =
       λ o. elim o [ inl e ↦ inr (r.1 (inl e)) | inr z ↦ elim z [ inl e ↦ inl e | inr y ↦ inr (r.1 (inr y)) ] ],
     )
 
--- the i-th walk ends on its point
-pub on_at : (ws : List Walk) (n i : ℕ) (d : Walk) → i < n → i < length ws → On (get_or ws i d).point (take n ws)
-on_at [] n i d a b = absurd (not-suc-le-zero b)
-on_at (w ∷ ws) zero i d a b = absurd (not-suc-le-zero a)
-on_at (w ∷ ws) (suc n) zero d a b = inl refl
-on_at (w ∷ ws) (suc n) (suc i) d a b = inr (on_at ws n i d (le_of_suc-le-suc a) (le_of_suc-le-suc b))
+-- a walk to q is found exactly if there is one
+pub found_on : (q : ℕ) (ws : List Walk) → is_some (find (λ w. w.point == q) ws) ≡ true → On q ws
+found_on q [] e = absurd (never_both e refl)
+found_on q (w ∷ ws) e =
+    elim (cases_eq w.point q) [
+      | inl h ↦ inl (sym h)
+      | inr n ↦ inr (found_on q ws (subst (λ (b : Bool). is_some (cond b (Some w) (find (λ v. v.point == q) ws)) ≡ true) (ne_eqb w.point q n) e))
+    ]
+
+pub missed : (q : ℕ) (ws : List Walk) → is_some (find (λ w. w.point == q) ws) ≡ false → On q ws → ⊥
+missed q [] e o = absurd o
+missed q (w ∷ ws) e o =
+    elim (cases_eq w.point q) [
+      | inl h ↦ never_both refl (subst (λ (b : Bool). is_some (cond b (Some w) (find (λ v. v.point == q) ws)) ≡ false) (eq-eqb w.point q h) e)
+      | inr n ↦ elim o [
+        | inl k ↦ n (sym k)
+        | inr y ↦ missed q ws (subst (λ (b : Bool). is_some (cond b (Some w) (find (λ v. v.point == q) ws)) ≡ false) (ne_eqb w.point q n) e) y
+      ]
+    ]

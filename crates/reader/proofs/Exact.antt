@@ -3,13 +3,13 @@ use Rattle.std.proofs.Common.{◌≡◌, ℕ, List, [], ◌∷◌, ◌++◌, len
 use Rattle.alphabet.specs.Meaning.{Meaning}
 use Rattle.pattern.specs.declared.pattern.Pattern.{Pattern}
 use Rattle.pattern.specs.Patterns.{entry_of}
+use Rattle.walk.specs.Graphs.{graph_of}
 use Rattle.walk.specs.Codes.{Code}
 use Rattle.walk.proofs.Sharing.{begins_both}
 use Rattle.walk.proofs.Trees.{counts_one}
 use Rattle.reader.specs.declared.state.Core.{Core}
 use Rattle.reader.specs.declared.stop.Stop.{Stop}
 use Rattle.reader.specs.declared.stop.Stop.TheVariants.{Dead, TreeFull}
-use Rattle.reader.specs.Marks.{graph}
 use Rattle.reader.specs.Reading.{SharedAt, NoLiveAt, CountsAt, Answered, Exact, Advances, Exactly}
 
 abbrev Answer : Type 0
@@ -50,7 +50,7 @@ module _ {Symbol : Type 0} (L : Meaning Symbol) (pattern : Pattern) (s : Core) (
       λ b.
           let S = A.state in
           let q = shared_one b.common (h ++ xs) b.shared S.shared in
-          let e = counts_one L (graph pattern) (entry_of pattern) w (h ++ xs) b.size S.size (subst (λ (g : Code). CountsAt L pattern w g b.size) q b.counts) S.counts in
+          let e = counts_one L (graph_of pattern) (entry_of pattern) w (h ++ xs) b.size S.size (subst (λ (g : Code). CountsAt L pattern w g b.size) q b.counts) S.counts in
           let o = b.over in
           let i = S.within in
           absurd (omega (arith, e, o, i)),

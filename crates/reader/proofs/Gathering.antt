@@ -2,7 +2,7 @@
 use Rattle.std.proofs.Common.{◌≡◌, ℕ, true, [], ◌∷◌, ◌++◌, reverse, sym, ap, ◌∙◌, subst, append_assoc, arith}
 use Rattle.tree.specs.declared.table.Table.{Table}
 use Rattle.tree.specs.declared.paths.PathTree.{PathTree}
-use Rattle.tree.specs.Sound.{held_of, Up}
+use Rattle.tree.specs.Sound.{held_of, left, Up}
 use Rattle.tree.specs.Held.{Held, Same, Taken, NoneShared, room}
 use Rattle.walk.specs.Codes.{Code}
 use Rattle.reader.specs.Gather.{Gathered, Parted}
@@ -15,11 +15,7 @@ pub held_before : (t t' : PathTree) → Same t t' → (i : ℕ) (xs : Code) → 
 held_before t t' e i xs h = subst (λ (T : Table). (held_of T i ≡ true) × Up T i (reverse xs)) e h
 
 pub same_room : (t t' : PathTree) → Same t t' → room t' ≡ room t
-same_room t t' e = ap (λ (T : Table). T.left) e
-
-pub gathered_none : (t : PathTree) (xs : Code) → xs ≡ [] → Gathered t xs t
-gathered_none t xs e = record
-    { more = omega arith; began = λ i zs h. (zs, ap (λ (y : Code). y ++ zs) (sym e), h); only = λ i ys h. subst (λ (y : Code). Held t i (y ++ ys)) (sym e) h }
+same_room t t' e = ap left e
 
 pub gathered_more : (t t' t2 : PathTree) (xs ys : Code) (x : ℕ) → Gathered t xs t' → Taken t' x t2 → ys ≡ xs ++ (x ∷ []) → Gathered t ys t2
 gathered_more t t' t2 xs ys x G T e = record {

@@ -1,6 +1,7 @@
 -- A reader's core stays the state of some reading; and what its calls tell.
 use Rattle.std.proofs.Common.{◌≡◌, ℕ, ◌<◌, Bool, true, false, ◌↔◌, List, [], ◌∷◌, ◌++◌, set, replicate, Some, None, Ok, Err, Option, Result, sym, refl, ap, ◌∙◌, subst, inl, inr, append_assoc, arith}
 use mathlib.Core.Logic.{∥∥₁_map}
+use Rattle.std.specs.Result.{result_err}
 use Rattle.alphabet.specs.Meaning.{Meaning}
 use Rattle.alphabet.specs.Items.{end_mark}
 use Rattle.pattern.specs.declared.pattern.Pattern.{Pattern}
@@ -14,10 +15,10 @@ use Rattle.reader.specs.declared.state.Walk.{Walk}
 use Rattle.reader.specs.declared.state.Core.{Core}
 use Rattle.reader.specs.declared.stop.Stop.{Stop}
 use Rattle.reader.specs.Marks.{marked}
-use Rattle.reader.specs.Spread.{listed, On}
+use Rattle.reader.specs.Spread.{On}
 use Rattle.reader.specs.Reading.{Advances}
 use Rattle.reader.specs.Ending.{end_of, Ends}
-use Rattle.reader.specs.Calls.{refusal_of, Finishes, ShowsLive}
+use Rattle.reader.specs.Calls.{Finishes, ShowsLive}
 use Rattle.reader.specs.Seen.{Seen, every, SomeReading}
 use Rattle.reader.proofs.Basics.{marks_more, no_marks, under_on, on_under, on_split}
 use Rattle.reader.proofs.Reading.{all_listed}
@@ -25,7 +26,7 @@ use Rattle.reader.proofs.Reading.{all_listed}
 pub some_none : {A : Type 0} {x : Option A} {a : A} → x ≡ Some a → x ≡ None → ⊥
 some_none {A} {x} {a} e f = let z : Some a ≡ None = sym e ∙ f in let y : ◌≡◌ {A = ℕ} 0 1 = cc in omega (arith, y)
 
-pub keeps_reading : (pattern : Pattern) (a : Seen) (s s' : Core) (r : Result (Unit {0}) Stop) (xs : Code) → ∥ SomeReading pattern s ∥₁ → Advances every pattern a s r s' xs → refusal_of r ≡ None → ∥ SomeReading pattern s' ∥₁
+pub keeps_reading : (pattern : Pattern) (a : Seen) (s s' : Core) (r : Result (Unit {0}) Stop) (xs : Code) → ∥ SomeReading pattern s ∥₁ → Advances every pattern a s r s' xs → result_err r ≡ None → ∥ SomeReading pattern s' ∥₁
 keeps_reading pattern a s s' (Ok u) xs z A e = ∥∥₁_map z (λ R. (R.0 ++ (a ∷ []), (R.1.0 ++ xs, (A R.0 R.1.0 R.1.1).state)))
 keeps_reading pattern a s s' (Err f) xs z A e = absurd (some_none refl e)
 
@@ -42,10 +43,10 @@ module _ {Symbol : Type 0} (L : Meaning Symbol) (pattern : Pattern) (s : Core) w
       (h ++ xs, E' w h S, ap (λ (z : Code). h ++ z) e ∙ sym (append_assoc h xs (end_mark ∷ [])))
 
 -- the points of the live walks
-pub shows : {Symbol : Type 0} (L : Meaning Symbol) (pattern : Pattern) (s : Core) (m : PointSet) → ((q : ℕ) → (marked m q ≡ true) ↔ On q (listed s.live)) → ShowsLive L pattern s m
+pub shows : {Symbol : Type 0} (L : Meaning Symbol) (pattern : Pattern) (s : Core) (m : PointSet) → ((q : ℕ) → (marked m q ≡ true) ↔ On q s.live.items) → ShowsLive L pattern s m
 shows L pattern s m f w h S q = (
-  λ e. let i = under_on s.tree (listed s.live) S.walks S.standing.live q ((f q).0 e) in (h ++ i.0, S.lists.sound q (h ++ i.0) (in_after q i.0 h S.walks i.1)),
-  λ l. let i = in_before q l.0 h S.walks (all_listed L pattern w (after h S.walks) S.lists q l.0 l.1) in (f q).1 (on_under s.tree (listed s.live) S.walks S.standing.live q i.0 i.2),
+  λ e. let i = under_on s.traversal.tree s.live.items S.walks S.standing.to_go q ((f q).0 e) in (h ++ i.0, S.lists.sound q (h ++ i.0) (in_after q i.0 h S.walks i.1)),
+  λ l. let i = in_before q l.0 h S.walks (all_listed L pattern w (after h S.walks) S.lists q l.0 l.1) in (f q).1 (on_under s.traversal.tree s.live.items S.walks S.standing.to_go q i.0 i.2),
 )
 
 -- a point more

@@ -5,8 +5,8 @@ pub mod Sweeping
 pub mod Gathering
 pub mod Shifting
 pub mod Reading
-pub mod Answering
 pub mod Exact
+pub mod Answering
 pub mod Starting
 pub mod Ending
 pub mod Out

@@ -10,13 +10,12 @@ use Rattle.pattern.specs.declared.pattern.Pattern.{Pattern}
 use Rattle.pattern.specs.declared.point.Point.{Point}
 use Rattle.pattern.specs.declared.point.Point.TheVariants as point
 use Rattle.pattern.specs.declared.step.Step.TheVariants.{Read}
-use Rattle.walk.specs.Graphs.{steps, ClassesBelow}
+use Rattle.walk.specs.Graphs.{graph_of, steps, ClassesBelow}
 use Rattle.walk.specs.Codes.{Code}
 use Rattle.walk.specs.Walks.{Live, NoLive}
 use Rattle.walk.specs.Search.{Reached, In, after}
 use Rattle.walk.proofs.Routes.{dead_iff, some_accepted}
 use Rattle.reader.specs.declared.state.Core.{Core}
-use Rattle.reader.specs.Marks.{graph}
 use Rattle.reader.specs.Reading.{Opened, StateOf}
 use Rattle.reader.proofs.Reading.{all_listed}
 use Rattle.reader.proofs.Starting.{lists_start, state_of}
@@ -63,8 +62,8 @@ module _ (pattern : Pattern) (s : Core) (xs : Code) (O : Opened pattern s xs) wh
       let e = m.0 in
       let L = lone (classes (points e)) in
       some_live e (λ q c l.
-      let l1 : Live L (graph pattern) (entry_of pattern) [] q c =
-      subst (λ (i : ℕ). Live L (graph pattern) i [] q c) (sym m.1.entry) (subst (λ (ps : List Point). Live L (step_at ps) (start e) [] q c) (sym m.1.points) l) in
+      let l1 : Live L (graph_of pattern) (entry_of pattern) [] q c =
+      subst (λ (i : ℕ). Live L (graph_of pattern) i [] q c) (sym m.1.entry) (subst (λ (ps : List Point). Live L (step_at ps) (start e) [] q c) (sym m.1.points) l) in
       subst (λ (rs : List Reached). In q c (after xs rs)) z (all_listed L pattern [] (after xs O.walks) (lists_start L pattern s xs O) q c l1)))
 
   some_one : (rs : List Reached) → (rs ≡ [] → ⊥) → (q : ℕ) × ((c : Code) × In q c rs)

@@ -6,18 +6,17 @@ use mathlib.Core.HLevel.{⊥_prop, Π_prop, ×_prop}
 use Rattle.std.proofs.lemmas.Bool.{cases_eq}
 use Rattle.alphabet.specs.Items.{first_branch, second_branch}
 use Rattle.pattern.specs.declared.pattern.Pattern.{Pattern}
-use Rattle.point_set.specs.Members.{point_count}
 use Rattle.walk.specs.Codes.{Code, Earlier}
 use Rattle.walk.specs.Search.{Reached, In, Ordered}
 use Rattle.tree.specs.declared.paths.PathTree.{PathTree}
 use Rattle.tree.specs.Sound.{held_of}
 use Rattle.tree.specs.Held.{room}
 use Rattle.tree.proofs.Holding.{held_same, held_path}
-use Rattle.tree.proofs.Out.{bool_out, eq_out, le_out}
+use Rattle.tree.proofs.Out.{bool_out, le_out}
 use Rattle.reader.specs.declared.state.Walk.{Walk}
 use Rattle.reader.specs.declared.state.Core.{Core}
-use Rattle.reader.specs.Spread.{listed, Under}
-use Rattle.reader.specs.Reading.{step_space, Fit}
+use Rattle.reader.specs.Spread.{Under}
+use Rattle.reader.specs.State.{step_space, Fit}
 use Rattle.reader.specs.Seen.{every, SomeReading}
 use Rattle.reader.proofs.Answering.{spacious}
 
@@ -86,25 +85,23 @@ module _ (t : PathTree) where
       let r = rebuilt ws (∥∥₁_map z (λ x. under_tail t w ws x.0 x.1)) in
       (record { point = w.point; code = p.path } ∷ r.0, (refl, p.held, r.1))
 
-pub fit_out : (s : Core) → ∥ Fit s ∥₁ → Fit s
-fit_out s z =
-    let R = rebuilt s.tree (listed s.live) (∥∥₁_map z (λ F. (F.walks, F.standing.live))) in
-    let same : (F : Fit s) → F.walks ≡ R.0 = λ F. under_same s.tree (listed s.live) F.walks R.0 F.standing.live R.1 in
+pub fit_out : (t : PathTree) (live : List Walk) → ∥ Fit t live ∥₁ → Fit t live
+fit_out t live z =
+    let R = rebuilt t live (∥∥₁_map z (λ F. (F.walks, F.standing.to_go))) in
+    let same : (F : Fit t live) → F.walks ≡ R.0 = λ F. under_same t live F.walks R.0 F.standing.to_go R.1 in
     record {
       walks = R.0;
       standing = record {
-        live_size = eq_out (length s.live.walks) point_count (∥∥₁_map z (λ F. F.standing.live_size));
-        live_len = le_out s.live.len point_count (∥∥₁_map z (λ F. F.standing.live_len));
-        found_size = eq_out (length s.found.walks) point_count (∥∥₁_map z (λ F. F.standing.found_size));
-        live = R.1;
+        made = tt;
+        to_go = R.1;
         only = λ k ys h. ⊎_elim (λ (i : (q : ℕ) × In q ys R.0). i)
             (λ (n : (q : ℕ) → In q ys R.0 → ⊥). absurd (∥∥₁_elim z ⊥_prop (λ F. let o = F.standing.only k ys h in n o.0 (subst (In o.0 ys) (same F) o.1))))
             (in_cases ys R.0);
         ordered = ∥∥₁_elim z (ordered_prop R.0) (λ F. subst Ordered (same F) F.standing.ordered);
       };
-      space = le_out step_space (room s.tree) (∥∥₁_map z (λ F. F.space));
+      space = le_out step_space (room t) (∥∥₁_map z (λ F. F.space));
     }
 
 -- the state of some reading is fit for one more symbol
-pub fit_of : (pattern : Pattern) (s : Core) → ∥ SomeReading pattern s ∥₁ → Fit s
-fit_of pattern s z = fit_out s (∥∥₁_map z (λ R. let S = R.1.1 in record { walks = S.walks; standing = S.standing; space = spacious every pattern s R.0 R.1.0 S }))
+pub fit_of : (pattern : Pattern) (s : Core) → ∥ SomeReading pattern s ∥₁ → Fit s.traversal.tree s.live.items
+fit_of pattern s z = fit_out s.traversal.tree s.live.items (∥∥₁_map z (λ R. let S = R.1.1 in record { walks = S.walks; standing = S.standing; space = spacious every pattern s R.0 R.1.0 S }))

@@ -1,14 +1,12 @@
 -- What a core between symbols says of the live walks.
-use Rattle.std.proofs.Common.{◌≡◌, ℕ, ◌+◌, ◌<◌, ◌≤◌, ◌≢◌, List, [], ◌∷◌, ◌++◌, length, take, drop, sym, refl, ap, ◌∙◌, subst, inl, inr, ⊎_elim, append-nil, arith, length-take-le}
+use Rattle.std.proofs.Common.{◌≡◌, ℕ, ◌+◌, ◌<◌, ◌≤◌, ◌≢◌, List, [], ◌∷◌, ◌++◌, sym, refl, ap, ◌∙◌, subst, inl, inr, ⊎_elim, append-nil}
 use mathlib.Core.List.{append_cancel_left, Memᴰ}
-use Rattle.std.proofs.lemmas.List.{drop_all}
 use Rattle.alphabet.specs.Meaning.{Meaning}
 use Rattle.pattern.specs.declared.pattern.Pattern.{Pattern}
 use Rattle.pattern.specs.Patterns.{entry_of}
-use Rattle.point_set.specs.Members.{point_count}
-use Rattle.walk.specs.Graphs.{Points, none}
+use Rattle.walk.specs.Graphs.{graph_of, Points, none}
 use Rattle.walk.specs.Codes.{Code}
-use Rattle.walk.specs.Search.{Reached, In, after, Ordered, Sweep, done}
+use Rattle.walk.specs.Search.{Reached, In, after, Ordered, Sweep}
 use Rattle.walk.specs.Tree.{Member, Once, Node}
 use Rattle.walk.proofs.Order.{in_after, in_before}
 use Rattle.walk.proofs.Lists.{Lists, lists_all, lists_next}
@@ -17,93 +15,13 @@ use Rattle.tree.specs.Limits.{countable, capacity}
 use Rattle.tree.specs.Held.{Held, Start, room}
 use Rattle.tree.specs.Prefixes.{Once as OnceThere, Counts as Counted}
 use Rattle.reader.specs.declared.state.Walk.{Walk}
-use Rattle.reader.specs.declared.state.Line.{Line}
 use Rattle.reader.specs.declared.state.Core.{Core}
-use Rattle.reader.specs.Marks.{graph, marked}
-use Rattle.reader.specs.Spread.{listed, Under}
-use Rattle.reader.specs.State.{State}
-use Rattle.reader.specs.Sweeping.{Partway, SomeWay, LeadsOn}
+use Rattle.reader.specs.Spread.{Under}
+use Rattle.reader.specs.State.{State, Standing}
 use Rattle.reader.specs.Gather.{Gathered, Parted}
-use Rattle.reader.specs.Reading.{step_space, Standing, Fit, Cleared, LiveAt, SharedAt, NoLiveAt, CountsAt, ListsLive, TooBig, Went}
-use Rattle.reader.proofs.Basics.{no_marks, unmarked_bound, under_length, under_slot}
+use Rattle.reader.specs.Reading.{LiveAt, SharedAt, NoLiveAt, CountsAt, ListsLive, TooBig, Went}
+use Rattle.reader.proofs.Basics.{under_slot}
 use Rattle.reader.proofs.Shifting.{after_after, ordered_before, sweep_after, begins_compared, rest_of}
-
--- the walks of a line
-
-pub listed_length : (l : Line) → length l.walks ≡ point_count → l.len ≤ point_count → length (listed l) ≡ l.len
-listed_length l a b = length-take-le l.len l.walks (omega (arith, a, b))
-
-pub none_left : (t : PathTree) (ws : List Walk) (rest : List Reached) → ws ≡ [] → Under t [] ws rest → rest ≡ []
-none_left t [] [] e u = refl
-none_left t [] (r ∷ rest) e u = absurd u
-none_left t (w ∷ ws) rest e u = let z = ap length e in absurd (omega (arith, z))
-
--- at the end of the line no walk is left
-pub line_over : (s : Core) (i : ℕ) (rest news : List Reached) → State s i rest news → s.live.len ≡ i → rest ≡ []
-line_over s i rest news S e =
-    let m = listed_length s.live S.live_size S.live_len in
-    none_left s.tree (drop i (listed s.live)) rest (drop_all i (listed s.live) (omega (arith, m, e))) S.to_go
-
--- before the sweep
-
--- no walk is found yet
-pub state_first : (s s' : Core) → s'.tree ≡ s.tree → s'.live ≡ s.live → s'.found ≡ record { walks = s.found.walks; len = 0 } → (walks : List Reached) → Standing s walks → State s' 0 walks []
-state_first s s' t l f walks S = record {
-  live_size = subst (λ (x : Line). length x.walks ≡ point_count) (sym l) S.live_size;
-  live_len = subst (λ (x : Line). x.len ≤ point_count) (sym l) S.live_len;
-  found_size = ap (λ (x : Line). length x.walks) f ∙ S.found_size;
-  to_go = subst (λ (x : PathTree). Under x [] (listed s'.live) walks) (sym t) (subst (λ (x : Line). Under s.tree [] (listed x) walks) (sym l) S.live);
-  made = subst (λ (x : Line). Under s'.tree [] (listed x) []) (sym f) tt;
-  only = λ k ys h. S.only k ys (subst (λ (x : PathTree). Held x k ys) t h);
-  ordered = S.ordered;
-}
-
-module _ {Symbol : Type 0} (L : Meaning Symbol) (a : Symbol) (pattern : Pattern) where
-  pub begun : (s s' : Core) → Cleared s s' → (walks : List Reached) → Standing s walks → step_space ≤ room s.tree → Partway L a pattern s' 0 walks
-  begun s s' C walks S h =
-      let b = unmarked_bound s'.marks in
-      let n = under_length s.tree [] (listed s.live) walks S.live in
-      let m = listed_length s.live S.live_size S.live_len in
-      let y = S.live_len in
-      let t = ap room C.tree in
-      let f = ap (λ (x : Line). x.len) C.found in
-      record {
-        done = [];
-        rest = walks;
-        news = [];
-        all = refl;
-        sweep = subst (λ (N : Points). Sweep L (graph pattern) a none [] [] N) (sym (no_marks s'.marks C.marks)) done;
-        state = state_first s s' C.tree C.live C.found walks S;
-        spare = record { space = omega (arith, b, n, m, y, h, t); spots = omega (arith, b, f) };
-      }
-
-  -- after it
-  pub record Swept (s : Core) (i : ℕ) (ls : List Reached) : Type 0 where
-    pub news : List Reached
-    pub sweep : Sweep L (graph pattern) a none ls news (marked s.marks)
-    pub state : State s i [] news
-    pub spots : s.found.len ≤ point_count
-
-  swept : (s : Core) (i : ℕ) (ls : List Reached) → s.live.len ≡ i → Partway L a pattern s i ls → Swept s i ls
-  swept s i ls e P =
-      let q = line_over s i P.rest P.news P.state e in
-      let d : P.done ≡ ls = sym (P.all ∙ ap (λ (x : List Reached). P.done ++ x) q ∙ append-nil P.done) in
-      record {
-        news = P.news;
-        sweep = subst (λ (x : List Reached). Sweep L (graph pattern) a none x P.news (marked s.marks)) d P.sweep;
-        state = subst (λ (x : List Reached). State s i x P.news) q P.state;
-        spots = let r = P.spare.spots in omega (arith, r);
-      }
-
-  pub swept_from : (s s' s2 : Core) → Cleared s s' → LeadsOn L a pattern s' 0 s2 s'.live.len → s2.live ≡ s'.live →
-      (walks : List Reached) → Standing s walks → step_space ≤ room s.tree → Swept s2 s'.live.len walks
-  swept_from s s' s2 C f k walks S h = swept s2 s'.live.len walks (ap (λ (l : Line). l.len) k) (f walks (begun s s' C walks S h))
-
-  pub begun_some : (s s' : Core) → Cleared s s' → Fit s → SomeWay L a pattern s' 0
-  begun_some s s' C F = (F.walks, begun s s' C F.walks F.standing F.space)
-
-pub line_some : (l : Line) → length l.walks ≡ point_count → l.len ≤ point_count → l.len ≢ 0 → 0 < length (listed l)
-line_some l a b n = let m = listed_length l a b in omega (arith, m, n)
 
 -- the items that came off begin each code
 stripped : (t t' : PathTree) (xs : Code) → Gathered t xs t' → (ws : List Walk) (rs : List Reached) → Under t [] ws rs → (ss : List Reached) × (rs ≡ after xs ss) × Under t' [] ws ss
@@ -118,28 +36,22 @@ stripped t t' xs G (w ∷ ws) (r ∷ rs) u =
       (u.0, b.2, h.2),
     )
 
-pub record Turned (s : Core) (news : List Reached) (xs : Code) : Type 0 where
+pub record Turned (t : PathTree) (live : List Walk) (news : List Reached) (xs : Code) : Type 0 where
   pub walks : List Reached
   pub is : news ≡ after xs walks
-  pub standing : Standing s walks
+  pub standing : Standing t live walks
 
-abbrev pub turned : Core → PathTree → Line → Core
-turned s t a = record { tree = t; marks = s.marks; live = a; found = s.found }
-
--- the walks found, in `a`, are the live ones now
-pub turn : (s : Core) (i : ℕ) (news : List Reached) (xs : Code) (t' : PathTree) (a : Line) → listed a ≡ listed s.found → a.len ≡ s.found.len → length a.walks ≡ point_count → s.found.len ≤ point_count →
-    State s i [] news → Gathered s.tree xs t' → Turned (turned s t' a) news xs
-turn s i news xs t' a e f g r S G =
-    let h = stripped s.tree t' xs G (listed s.found) news S.made in
+-- the walks found are the live ones now
+pub turn : {t : PathTree} {found : List Walk} {news : List Reached} {xs : Code} {t' : PathTree} → State t found [] news [] → Gathered t xs t' → Turned t' found news xs
+turn {t} {found} {news} {xs} {t'} S G =
+    let h = stripped t t' xs G found news S.made in
     let o : Ordered news = subst Ordered (append-nil news) S.ordered in
     record {
       walks = h.0;
       is = h.1;
       standing = record {
-        live_size = g;
-        live_len = omega (arith, r, f);
-        found_size = S.found_size;
-        live = subst (λ (ws : List Walk). Under t' [] ws h.0) (sym e) h.2;
+        made = tt;
+        to_go = h.2;
         only = λ k ys w.
             let z = S.only k (xs ++ ys) (G.only k ys w) in
             let m : In z.0 (xs ++ ys) (after xs h.0) = subst (λ (l : List Reached). In z.0 (xs ++ ys) l) (append-nil news ∙ h.1) z.1 in
@@ -149,14 +61,11 @@ turn s i news xs t' a e f g r S G =
       };
     }
 
--- a walk is there exactly if the line is not empty
-pub some_walk : (t : PathTree) (ws : List Walk) (rs : List Reached) → Under t [] ws rs → 0 < length ws → (q : ℕ) × ((c : Code) × In q c rs)
-some_walk t [] rs u h = absurd (omega arith)
-some_walk t (w ∷ ws) [] u h = absurd u
-some_walk t (w ∷ ws) (r ∷ rs) u h = (r.point, (r.code, inl (refl, refl)))
-
-pub no_walk : (t : PathTree) (l : Line) (rs : List Reached) → Under t [] (listed l) rs → l.len ≡ 0 → rs ≡ []
-no_walk t l rs u e = none_left t (listed l) rs (ap (λ (n : ℕ). take n l.walks) e) u
+-- a walk is there if the line is not empty
+pub some_walk : (t : PathTree) (ws : List Walk) (rs : List Reached) → Under t [] ws rs → ws ≢ [] → (q : ℕ) × ((c : Code) × In q c rs)
+some_walk t [] rs u n = absurd (n refl)
+some_walk t (w ∷ ws) [] u n = absurd u
+some_walk t (w ∷ ws) (r ∷ rs) u n = (r.point, (r.code, inl (refl, refl)))
 
 -- counts
 
@@ -177,30 +86,30 @@ once_to (t ∷ ts) o = (λ m. o.0 (mem_from t ts m), once_to ts o.1)
 -- lists of live walks, in the words of this crate and of the theory
 
 module _ {Symbol : Type 0} (L : Meaning Symbol) (pattern : Pattern) (w : List Symbol) (ls : List Reached) where
-  pub lists_to : ListsLive L pattern w ls → Lists L (graph pattern) (entry_of pattern) w ls
+  pub lists_to : ListsLive L pattern w ls → Lists L (graph_of pattern) (entry_of pattern) w ls
   lists_to H = record { sound = H.sound; complete = H.complete; ordered = H.ordered }
 
-  pub lists_from : Lists L (graph pattern) (entry_of pattern) w ls → ListsLive L pattern w ls
+  pub lists_from : Lists L (graph_of pattern) (entry_of pattern) w ls → ListsLive L pattern w ls
   lists_from H = record { sound = H.sound; complete = H.complete; ordered = H.ordered }
 
   pub all_listed : ListsLive L pattern w ls → (q : ℕ) (c : Code) → LiveAt L pattern w q c → In q c ls
-  all_listed H q c l = lists_all L (graph pattern) (entry_of pattern) w ls (lists_to H) q c l
+  all_listed H q c l = lists_all L (graph_of pattern) (entry_of pattern) w ls (lists_to H) q c l
 
 module _ {Symbol : Type 0} (L : Meaning Symbol) (pattern : Pattern) (w : List Symbol) (g : Code)
-    (s : Core) (walks : List Reached) (S : Standing s walks) (H : ListsLive L pattern w (after g walks)) where
+    (tree : PathTree) (live : List Walk) (walks : List Reached) (S : Standing tree live walks) (H : ListsLive L pattern w (after g walks)) where
   live_in : (q : ℕ) (c : Code) → LiveAt L pattern w q c → (d : Code) × (c ≡ g ++ d) × In q d walks
   live_in q c l = in_before q c g walks (all_listed L pattern w (after g walks) H q c l)
 
   pub in_live : (q : ℕ) (d : Code) → In q d walks → LiveAt L pattern w q (g ++ d)
   in_live q d i = H.sound q (g ++ d) (in_after q d g walks i)
 
-  pub shared_is : Parted s.tree → (q : ℕ) (c : Code) → In q c walks → SharedAt L pattern w g
+  pub shared_is : Parted tree → (q : ℕ) (c : Code) → In q c walks → SharedAt L pattern w g
   shared_is P q c i = (
     λ p d l. let h = live_in p d l in (h.0, h.1),
     λ t T.
         ⊎_elim (λ m. m)
         (λ m.
-        let k = under_slot s.tree [] (listed s.live) walks S.live q c i in
+        let k = under_slot tree [] live walks S.to_go q c i in
         absurd (P m.0 (record {
           slot = k.0;
           holder = record { path = c; held = k.1 };
@@ -212,62 +121,62 @@ module _ {Symbol : Type 0} (L : Meaning Symbol) (pattern : Pattern) (w : List Sy
         (begins_compared (g ++ c) g t (c, refl) (T q (g ++ c) (in_live q c i))),
   )
 
-  pub counts_is : (n : ℕ) → Counted (Start s.tree) n → CountsAt L pattern w g n
+  pub counts_is : (n : ℕ) → Counted (Start tree) n → CountsAt L pattern w g n
   counts_is n C = (C.each, once_to C.each C.once, λ t. (to t, back t), C.many)
     where
-      to : (t : Code) → Member t C.each → Node L (graph pattern) (entry_of pattern) w g t
+      to : (t : Code) → Member t C.each → Node L (graph_of pattern) (entry_of pattern) w g t
       to t m =
           let b = C.those t (mem_from t C.each m) in
           let o = S.only b.entry (t ++ b.rest) b.held in
           (b.some, (o.0, (t ++ b.rest, in_live o.0 (t ++ b.rest) o.1, (b.rest, refl))))
 
-      back : (t : Code) → Node L (graph pattern) (entry_of pattern) w g t → Member t C.each
+      back : (t : Code) → Node L (graph_of pattern) (entry_of pattern) w g t → Member t C.each
       back t n =
           let rest = n.1.1.0 in
           let h = live_in n.1.0 (g ++ rest) n.1.1.1 in
           let e : rest ≡ h.0 = append_cancel_left g rest h.0 h.1 in
           let b = n.1.1.2 in
-          let k = under_slot s.tree [] (listed s.live) walks S.live n.1.0 h.0 h.2 in
-          mem_to t C.each (C.all t (record { some = n.0; entry = k.0; rest = b.0; held = subst (Held s.tree k.0) (sym e ∙ b.1) k.1 }))
+          let k = under_slot tree [] live walks S.to_go n.1.0 h.0 h.2 in
+          mem_to t C.each (C.all t (record { some = n.0; entry = k.0; rest = b.0; held = subst (Held tree k.0) (sym e ∙ b.1) k.1 }))
 
 -- one symbol more
 module _ {Symbol : Type 0} (L : Meaning Symbol) (a : Symbol) (pattern : Pattern) (w : List Symbol) (h : Code) (walks news : List Reached) (N : Points)
-    (H : ListsLive L pattern w (after h walks)) (W : Sweep L (graph pattern) a none walks news N) where
+    (H : ListsLive L pattern w (after h walks)) (W : Sweep L (graph_of pattern) a none walks news N) where
   abbrev w' : List Symbol
   w' = w ++ (a ∷ [])
 
   lists_news : ListsLive L pattern w' (after h news)
-  lists_news = lists_from L pattern w' (after h news) (lists_next L (graph pattern) (entry_of pattern) w a (after h walks) (after h news) N (lists_to L pattern w (after h walks) H) (sweep_after h W))
+  lists_news = lists_from L pattern w' (after h news) (lists_next L (graph_of pattern) (entry_of pattern) w a (after h walks) (after h news) N (lists_to L pattern w (after h walks) H) (sweep_after h W))
 
   pub dead_now : news ≡ [] → NoLiveAt L pattern w'
   dead_now e q c l = subst (λ (x : List Reached). In q c (after h x)) e (all_listed L pattern w' (after h news) lists_news q c l)
 
-  module _ (xs : Code) (s : Core) (T : Turned s news xs) where
+  module _ (xs : Code) (s : Core) (T : Turned s.traversal.tree s.live.items news xs) where
     lists_now : ListsLive L pattern w' (after (h ++ xs) T.walks)
     lists_now = subst (λ (x : List Reached). ListsLive L pattern w' x) (ap (after h) T.is ∙ after_after h xs T.walks) lists_news
 
-    module _ (P : Parted s.tree) (q : ℕ) (c : Code) (i : In q c T.walks) (n : ℕ) (C : Counted (Start s.tree) n) where
+    module _ (P : Parted s.traversal.tree) (q : ℕ) (c : Code) (i : In q c T.walks) (n : ℕ) (C : Counted (Start s.traversal.tree) n) where
       pub full_now : countable < n → TooBig L pattern w'
       full_now o = record {
         common = h ++ xs;
-        shared = shared_is L pattern w' (h ++ xs) s T.walks T.standing lists_now P q c i;
+        shared = shared_is L pattern w' (h ++ xs) s.traversal.tree s.live.items T.walks T.standing lists_now P q c i;
         size = n;
-        counts = counts_is L pattern w' (h ++ xs) s T.walks T.standing lists_now n C;
+        counts = counts_is L pattern w' (h ++ xs) s.traversal.tree s.live.items T.walks T.standing lists_now n C;
         over = o;
       }
 
-      pub read_now : n + room s.tree ≡ capacity → n ≤ countable → Went L pattern s w' (h ++ xs)
+      pub read_now : n + room s.traversal.tree ≡ capacity → n ≤ countable → Went L pattern s w' (h ++ xs)
       read_now r o = record {
         point = q;
         code = (h ++ xs) ++ c;
-        live = in_live L pattern w' (h ++ xs) s T.walks T.standing lists_now q c i;
+        live = in_live L pattern w' (h ++ xs) s.traversal.tree s.live.items T.walks T.standing lists_now q c i;
         state = record {
           walks = T.walks;
           standing = T.standing;
           lists = lists_now;
-          shared = shared_is L pattern w' (h ++ xs) s T.walks T.standing lists_now P q c i;
+          shared = shared_is L pattern w' (h ++ xs) s.traversal.tree s.live.items T.walks T.standing lists_now P q c i;
           size = n;
-          counts = counts_is L pattern w' (h ++ xs) s T.walks T.standing lists_now n C;
+          counts = counts_is L pattern w' (h ++ xs) s.traversal.tree s.live.items T.walks T.standing lists_now n C;
           count = r;
           within = o;
         };

@@ -1,12 +1,12 @@
 -- A search that writes its walks into the tree as it goes.
-use Rattle.std.proofs.Common.{◌≡◌, ℕ, ◌+◌, ◌<◌, true, false, ◌≢◌, ◌⊎◌, List, [], ◌∷◌, ◌++◌, length, get_or, set, sym, refl, ap, ◌∙◌, subst, inl, inr, ⊎_elim, append_assoc, append-nil, arith}
+use Rattle.std.proofs.Common.{◌≡◌, ℕ, ◌+◌, ◌<◌, true, false, ◌≢◌, ◌⊎◌, List, [], ◌∷◌, ◌++◌, length, get_or, set, sym, refl, ap, ◌∙◌, subst, inl, inr, ⊎_elim, append_assoc, append-nil, length-append, arith}
 use Rattle.std.proofs.lemmas.Bool.{cases_eq}
 use Rattle.alphabet.specs.Items.{first_branch, second_branch}
 use Rattle.pattern.specs.declared.pattern.Pattern.{Pattern}
 use Rattle.pattern.specs.declared.step.Step.TheVariants.{Pass, Fork}
 use Rattle.point_set.specs.declared.set.PointSet.{PointSet}
 use Rattle.point_set.specs.Members.{members, point_count}
-use Rattle.walk.specs.Graphs.{Points, rests, add}
+use Rattle.walk.specs.Graphs.{graph_of, Points, rests, add}
 use Rattle.walk.specs.Codes.{Code}
 use Rattle.walk.specs.Search.{Reached, In, after, Search, found, passed, forked}
 use Rattle.walk.specs.Search as theory
@@ -16,46 +16,38 @@ use Rattle.tree.specs.Held.{Held, Holder, Addable, Added, Released, room}
 use Rattle.tree.proofs.Holding.{held_same}
 use Rattle.tree.proofs.Using.{addable_leaf, addable_beside}
 use Rattle.reader.specs.declared.state.Walk.{Walk}
-use Rattle.reader.specs.declared.state.Line.{Line}
-use Rattle.reader.specs.declared.state.Core.{Core}
-use Rattle.reader.specs.Marks.{graph, marked, unmarked}
-use Rattle.reader.specs.Spread.{listed, Under, Ready, Spread}
-use Rattle.reader.proofs.Basics.{unmarked_less, unmarked_same, marks_more, marks_same, next_same, longer, under_moves, under_append, under_after}
+use Rattle.reader.specs.declared.state.traversal.Traversal.{Traversal}
+use Rattle.reader.specs.Marks.{marked, unmarked}
+use Rattle.reader.specs.Spread.{Under, Ready, Spread}
+use Rattle.reader.proofs.Basics.{unmarked_less, marks_more, next_same, longer, under_moves, under_append, under_after}
 
--- a core with other marks, another tree, another line of walks found
-abbrev pub noted : Core → PointSet → Core
-noted s m = record { tree = s.tree; marks = m; live = s.live; found = s.found }
+-- a traversal with other marks, another tree, other walks found
+abbrev pub noted : Traversal → PointSet → Traversal
+noted s m = record { tree = s.tree; marks = m; found = s.found }
 
-abbrev pub planted : Core → PathTree → Core
-planted s t = record { tree = t; marks = s.marks; live = s.live; found = s.found }
+abbrev pub planted : Traversal → PathTree → Traversal
+planted s t = record { tree = t; marks = s.marks; found = s.found }
 
-abbrev pub lined : Core → Line → Core
-lined s l = record { tree = s.tree; marks = s.marks; live = s.live; found = l }
+abbrev pub lined : Traversal → List Walk → Traversal
+lined s ws = record { tree = s.tree; marks = s.marks; found = record { items = ws } }
 
-module _ (pattern : Pattern) (s : Core) (p h : ℕ) (R : Ready s p h) where
-  pub holder : Holder s.tree h
-  holder = record { path = R.path; held = R.held }
-
-  -- the point is marked already; m are the marks then
-  pub again_spread : (m : PointSet) → members m ≡ set (members s.marks) p true → get_or (members s.marks) p false ≡ true → (t' : PathTree) → Released s.tree h t' → Spread pattern s p h (planted (noted s m) t')
-  again_spread m M e t' D =
-      let u = unmarked_same s.marks m p e M in
-      record {
-        path = R.path;
-        had = R.held;
-        walks = [];
-        search = subst (λ (N : Points). Search (graph pattern) (marked s.marks) p [] N) (sym (marks_same s.marks m p e M)) (theory.marked e);
-        news = [];
-        line = sym (append-nil (listed s.found));
-        under = tt;
-        size = R.size;
-        kept = refl;
-        fewer = omega (arith, u);
-        space = let r = D.left in omega (arith, r, u);
-        spots = omega (arith, u);
-        old = λ k ys n w. D.old k ys n w;
-        only = λ k ys w. inl ((λ z. D.gone ys (subst (λ (j : ℕ). Held t' j ys) z w)), D.only k ys w);
-      }
+module _ {s : Traversal} {p h : ℕ} (R : Ready s p h) where
+  -- the point is marked already
+  pub again_spread : {pattern : Pattern} → get_or (members s.marks) p false ≡ true → {t' : PathTree} → Released s.tree h t' → Spread pattern s p h (planted s t')
+  again_spread e {t'} D = record {
+    path = R.path;
+    had = R.held;
+    walks = [];
+    search = theory.marked e;
+    news = [];
+    line = sym (append-nil s.found.items);
+    under = tt;
+    fewer = omega arith;
+    space = let r = D.left in omega (arith, r);
+    spots = omega arith;
+    old = λ k ys n w. D.old k ys n w;
+    only = λ k ys w. inl ((λ z. D.gone ys (subst (λ (j : ℕ). Held t' j ys) z w)), D.only k ys w);
+  }
 
   -- the point was not marked; m are the marks with it
   module _ (e : get_or (members s.marks) p false ≡ false) (m : PointSet) (M : members m ≡ set (members s.marks) p true) where
@@ -65,25 +57,22 @@ module _ (pattern : Pattern) (s : Core) (p h : ℕ) (R : Ready s p h) where
     marks : marked m ≡ add p (marked s.marks)
     marks = marks_more s.marks m p R.here M
 
-    pub leaf_room : s.found.len < point_count
+    pub leaf_room : length s.found.items < point_count
     leaf_room = let u = falls in let v = R.spots in omega (arith, u, v)
 
     -- a walk ends there
-    pub leaf_spread : rests (graph pattern p) ≡ true → (l : Line) → listed l ≡ listed s.found ++ (record { point = p; slot = h } ∷ []) → l.len ≡ s.found.len + 1 → length l.walks ≡ point_count →
-        Spread pattern s p h (lined (noted s m) l)
-    leaf_spread q l f g y = record {
+    pub leaf_spread : {pattern : Pattern} → rests (graph_of pattern p) ≡ true → {ws : List Walk} → ws ≡ s.found.items ++ (record { point = p; slot = h } ∷ []) → Spread pattern s p h (lined (noted s m) ws)
+    leaf_spread {pattern} q {ws} f = record {
       path = R.path;
       had = R.held;
       walks = record { point = p; code = [] } ∷ [];
-      search = subst (λ (N : Points). Search (graph pattern) (marked s.marks) p (record { point = p; code = [] } ∷ []) N) (sym marks) (found e q);
+      search = subst (λ (N : Points). Search (graph_of pattern) (marked s.marks) p (record { point = p; code = [] } ∷ []) N) (sym marks) (found e q);
       news = record { point = p; slot = h } ∷ [];
       line = f;
       under = (refl, subst (Held s.tree h) (sym (append-nil R.path)) R.held, tt);
-      size = y;
-      kept = refl;
       fewer = let u = falls in omega (arith, u);
       space = let u = falls in omega (arith, u);
-      spots = let u = falls in omega (arith, u, g);
+      spots = let u = falls in let g = ap length f ∙ length-append s.found.items (record { point = p; slot = h } ∷ []) in omega (arith, u, g);
       old = λ k ys n w. w;
       only = λ k ys w. ⊎_elim
           (λ (z : k ≡ h). inr (p, ([], inl (refl, refl), held_same s.tree h ys R.path (subst (λ (j : ℕ). Held s.tree j ys) z w) R.held ∙ sym (append-nil R.path))))
@@ -91,9 +80,8 @@ module _ (pattern : Pattern) (s : Core) (p h : ℕ) (R : Ready s p h) where
     }
 
     -- it is passed freely
-    pub pass_ready : (k : ℕ) → k < point_count → Ready (noted s m) k h
-    pass_ready k l = record {
-      size = R.size;
+    pub pass_ready : {k : ℕ} → k < point_count → Ready (noted s m) k h
+    pass_ready l = record {
       space = let u = falls in let v = R.space in omega (arith, u, v);
       spots = let u = falls in let v = R.spots in omega (arith, u, v);
       here = l;
@@ -102,17 +90,15 @@ module _ (pattern : Pattern) (s : Core) (p h : ℕ) (R : Ready s p h) where
       alone = R.alone;
     }
 
-    pub pass_spread : (k : ℕ) → graph pattern p ≡ Pass k → (s' : Core) → Spread pattern (noted s m) k h s' → Spread pattern s p h s'
-    pass_spread k q s' X = record {
+    pub pass_spread : {pattern : Pattern} {k : ℕ} → graph_of pattern p ≡ Pass k → {s' : Traversal} → Spread pattern (noted s m) k h s' → Spread pattern s p h s'
+    pass_spread {pattern} {k} q {s'} X = record {
       path = X.path;
       had = X.had;
       walks = X.walks;
-      search = passed e q (subst (λ (N : Points). Search (graph pattern) N k X.walks (marked s'.marks)) marks X.search);
+      search = passed e q (subst (λ (N : Points). Search (graph_of pattern) N k X.walks (marked s'.marks)) marks X.search);
       news = X.news;
       line = X.line;
       under = X.under;
-      size = X.size;
-      kept = X.kept;
       fewer = let u = falls in let v = X.fewer in omega (arith, u, v);
       space = let u = falls in let v = X.space in omega (arith, u, v);
       spots = let u = falls in let v = X.spots in omega (arith, u, v);
@@ -124,7 +110,7 @@ module _ (pattern : Pattern) (s : Core) (p h : ℕ) (R : Ready s p h) where
     pub first_addable : Addable s.tree h first_branch
     first_addable = let u = falls in let v = R.space in addable_leaf s.tree h R.path R.held first_branch (omega (arith, u, v)) R.alone
 
-    module _ (l : ℕ) (t1 : PathTree) (E : Added s.tree h first_branch l t1) where
+    module _ {l : ℕ} {t1 : PathTree} (E : Added s.tree h first_branch l t1) where
       abbrev xs : Code
       xs = R.path
 
@@ -136,9 +122,8 @@ module _ (pattern : Pattern) (s : Core) (p h : ℕ) (R : Ready s p h) where
       h≢l : h ≢ l
       h≢l z = E.fresh xs (subst (λ (j : ℕ). Held s.tree j xs) z R.held)
 
-      pub first_ready : (a : ℕ) → a < point_count → Ready (planted (noted s m) t1) a l
-      first_ready a la = record {
-        size = R.size;
+      pub first_ready : {a : ℕ} → a < point_count → Ready (planted (noted s m) t1) a l
+      first_ready la = record {
         space = let u = falls in let v = R.space in let w = E.left in omega (arith, u, v, w);
         spots = let u = falls in let v = R.spots in omega (arith, u, v);
         here = la;
@@ -147,7 +132,7 @@ module _ (pattern : Pattern) (s : Core) (p h : ℕ) (R : Ready s p h) where
         alone = λ i ys w. ⊎_elim (λ z. z) (λ v. absurd (no_more first_branch i ys (subst (Held s.tree i) (append_assoc xs (first_branch ∷ []) ys) v))) (E.only i ((xs ++ (first_branch ∷ [])) ++ ys) w);
       }
 
-      module _ (a : ℕ) (s2 : Core) (X : Spread pattern (planted (noted s m) t1) a l s2) where
+      module _ {pattern : Pattern} {a : ℕ} {s2 : Traversal} (X : Spread pattern (planted (noted s m) t1) a l s2) where
         x_path : X.path ≡ xs ++ (first_branch ∷ [])
         x_path = held_same t1 l X.path (xs ++ (first_branch ∷ [])) X.had (E.new xs R.held)
 
@@ -172,10 +157,9 @@ module _ (pattern : Pattern) (s : Core) (p h : ℕ) (R : Ready s p h) where
         pub second_addable : Addable s2.tree h second_branch
         second_addable = addable_beside s2.tree h xs h2 second_branch first_branch room2 (λ (z : second_branch ≡ first_branch). omega (arith, z)) only_first
 
-        module _ (r : ℕ) (t3 : PathTree) (F : Added s2.tree h second_branch r t3) where
-          pub second_ready : (b : ℕ) → b < point_count → Ready (planted s2 t3) b r
-          second_ready b lb = record {
-            size = X.size;
+        module _ {r : ℕ} {t3 : PathTree} (F : Added s2.tree h second_branch r t3) where
+          pub second_ready : {b : ℕ} → b < point_count → Ready (planted s2 t3) b r
+          second_ready lb = record {
             space = let u = falls in let v = R.space in let w = E.left in let x = X.space in let y = X.fewer in let z = F.left in omega (arith, u, v, w, x, y, z);
             spots = let u = falls in let v = R.spots in let x = X.spots in omega (arith, u, v, x);
             here = lb;
@@ -187,7 +171,7 @@ module _ (pattern : Pattern) (s : Core) (p h : ℕ) (R : Ready s p h) where
           h≢r : h ≢ r
           h≢r z = F.fresh xs (subst (λ (j : ℕ). Held s2.tree j xs) z h2)
 
-          module _ (b : ℕ) (s4 : Core) (Y : Spread pattern (planted s2 t3) b r s4) where
+          module _ {b : ℕ} {s4 : Traversal} (Y : Spread pattern (planted s2 t3) b r s4) where
             y_path : Y.path ≡ xs ++ (second_branch ∷ [])
             y_path = held_same t3 r Y.path (xs ++ (second_branch ∷ [])) Y.had (F.new xs h2)
 
@@ -197,17 +181,15 @@ module _ (pattern : Pattern) (s : Core) (p h : ℕ) (R : Ready s p h) where
             pub holder4 : Holder s4.tree h
             holder4 = record { path = xs; held = h4 }
 
-            pub fork_spread : graph pattern p ≡ Fork a b → (t5 : PathTree) → Released s4.tree h t5 → Spread pattern s p h (planted s4 t5)
-            fork_spread q t5 D = record {
+            pub fork_spread : graph_of pattern p ≡ Fork a b → {t5 : PathTree} → Released s4.tree h t5 → Spread pattern s p h (planted s4 t5)
+            fork_spread q {t5} D = record {
               path = xs;
               had = R.held;
               walks = after (first_branch ∷ []) X.walks ++ after (second_branch ∷ []) Y.walks;
-              search = forked e q (subst (λ (N : Points). Search (graph pattern) N a X.walks (marked s2.marks)) marks X.search) Y.search;
+              search = forked e q (subst (λ (N : Points). Search (graph_of pattern) N a X.walks (marked s2.marks)) marks X.search) Y.search;
               news = X.news ++ Y.news;
-              line = Y.line ∙ ap (λ (z : List Walk). z ++ Y.news) X.line ∙ append_assoc (listed s.found) X.news Y.news;
+              line = Y.line ∙ ap (λ (z : List Walk). z ++ Y.news) X.line ∙ append_assoc (s.found.items) X.news Y.news;
               under = under_append t5 xs X.news Y.news (after (first_branch ∷ []) X.walks) (after (second_branch ∷ []) Y.walks) x_under y_under;
-              size = Y.size;
-              kept = Y.kept ∙ X.kept;
               fewer = let u = falls in let x = X.fewer in let y = Y.fewer in omega (arith, u, x, y);
               space = let u = falls in let w = E.left in let x = X.space in let z = F.left in let y = Y.space in let d = D.left in omega (arith, u, w, x, z, y, d);
               spots = let u = falls in let x = X.spots in let y = Y.spots in omega (arith, u, x, y);

@@ -1,28 +1,23 @@
 -- What the calls of a reader answer, in the words of walks. L is what the alphabet means. Assumes nothing.
-use Rattle.std.specs.Prelude.{◌≡◌, ℕ, Bool, true, false, ◌↔◌, List, [], ◌++◌, replicate, Some, None, Ok, Err, Option, Result}
+use Rattle.std.specs.Prelude.{◌≡◌, ℕ, Bool, true, false, ◌↔◌, List, [], ◌++◌, replicate, Ok, Err, Result}
 use Rattle.alphabet.specs.Meaning.{Meaning}
 use Rattle.pattern.specs.declared.pattern.Pattern.{Pattern}
 use Rattle.pattern.specs.Patterns.{entry_of}
 use Rattle.point_set.specs.declared.set.PointSet.{PointSet}
 use Rattle.point_set.specs.Members.{members, point_count}
+use Rattle.walk.specs.Graphs.{graph_of}
 use Rattle.walk.specs.Codes.{Code}
 use Rattle.walk.specs.Walks.{Accepted, Greedy}
 use Rattle.reader.specs.declared.buffer.Buffer.{Buffer}
 use Rattle.reader.specs.declared.state.Core.{Core}
 use Rattle.reader.specs.declared.stop.Stop.{Stop}
-use Rattle.reader.specs.Marks.{graph, marked}
-use Rattle.reader.specs.Gather.{items_of}
+use Rattle.reader.specs.Marks.{marked}
 use Rattle.reader.specs.Reading.{LiveAt, StateOf}
 use Rattle.reader.specs.Ending.{end_of}
 
 -- the items in a buffer, in order
 abbrev pub held_in : Buffer → Code
-held_in b = items_of b.inner
-
--- what a reader remembers of an answer
-abbrev pub refusal_of : Result (Unit {0}) Stop → Option Stop
-refusal_of (Ok u) = None
-refusal_of (Err f) = Some f
+held_in b = b.items.items
 
 -- a reader that refused a symbol with f refuses the next likewise; its core stays, and nothing comes off
 pub record Still (f : Stop) (s : Core) (r : Result (Unit {0}) Stop) (s' : Core) (xs : Code) : Type 0 where
@@ -41,10 +36,10 @@ ShowsNone m = members m ≡ replicate point_count false
 
 module _ {Symbol : Type 0} (L : Meaning Symbol) (pattern : Pattern) where
   abbrev pub AcceptedAt : List Symbol → Type 0
-  AcceptedAt w = Accepted L (graph pattern) (entry_of pattern) (end_of pattern) w
+  AcceptedAt w = Accepted L (graph_of pattern) (entry_of pattern) (end_of pattern) w
 
   abbrev pub GreedyAt : List Symbol → Code → Type 0
-  GreedyAt w g = Greedy L (graph pattern) (entry_of pattern) (end_of pattern) w g
+  GreedyAt w g = Greedy L (graph_of pattern) (entry_of pattern) (end_of pattern) w g
 
   -- the answer at the end of w, where h had come off, and xs comes off now: the whole is the greedy code, or w is not accepted
   abbrev pub Finished : Result Bool Stop → List Symbol → Code → Code → Type 0

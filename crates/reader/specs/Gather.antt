@@ -1,19 +1,8 @@
 -- What all held paths share, taken off them. Assumes nothing.
-use Rattle.std.specs.Prelude.{◌≡◌, ℕ, ◌≤◌, ◌++◌, length, take}
+use Rattle.std.specs.Prelude.{◌≡◌, ℕ, ◌≤◌, ◌++◌}
 use Rattle.walk.specs.Codes.{Code}
-use Rattle.tree.specs.Limits.{capacity}
 use Rattle.tree.specs.declared.paths.PathTree.{PathTree}
 use Rattle.tree.specs.Held.{Held, Shares, room}
-use Rattle.reader.specs.declared.state.Items.{Items}
-
--- the items that came off, in order
-abbrev pub items_of : Items → Code
-items_of o = take o.len o.items
-
--- the array has its size, and the items lie within it
-pub record Whole (o : Items) : Type 0 where
-  pub size : length o.items ≡ capacity
-  pub within : o.len ≤ capacity
 
 -- every held path began with xs, which is taken off
 pub record Gathered (t : PathTree) (xs : Code) (t' : PathTree) : Type 0 where

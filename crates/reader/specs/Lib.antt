@@ -7,3 +7,4 @@ pub mod Reading
 pub mod Ending
 pub mod Seen
 pub mod Calls
+pub mod Causes

@@ -1,80 +1,52 @@
 -- When a core is the state of a reading, and what one symbol more makes of it. L is what the alphabet means. Assumes nothing.
-use Rattle.std.specs.Prelude.{◌≡◌, ℕ, ◌+◌, ◌<◌, ◌≤◌, false, ◌↔◌, List, [], ◌∷◌, ◌++◌, length, replicate, Ok, Err, Result}
+use Rattle.std.specs.Prelude.{◌≡◌, ℕ, ◌+◌, ◌<◌, ◌≤◌, ◌↔◌, List, [], ◌∷◌, ◌++◌, Ok, Err, Result}
 use Rattle.alphabet.specs.Meaning.{Meaning}
 use Rattle.pattern.specs.declared.pattern.Pattern.{Pattern}
 use Rattle.pattern.specs.Patterns.{entry_of}
-use Rattle.point_set.specs.Members.{members, point_count}
 use Rattle.walk.specs.Codes.{Code}
 use Rattle.walk.specs.Walks.{Allowed, Live, Shared, NoLive}
-use Rattle.walk.specs.Graphs.{Points, none}
+use Rattle.walk.specs.Graphs.{graph_of, Points, none}
 use Rattle.walk.specs.Search.{Reached, In, Ordered, after, Search}
 use Rattle.walk.specs.Tree.{Counts}
-use Rattle.tree.specs.Limits.{countable, step_branches, step_reads, capacity}
-use Rattle.tree.specs.Held.{Held, room}
+use Rattle.tree.specs.Limits.{countable, capacity}
+use Rattle.tree.specs.Held.{room}
 use Rattle.reader.specs.declared.state.Core.{Core}
 use Rattle.reader.specs.declared.stop.Stop.{Stop}
 use Rattle.reader.specs.declared.stop.Stop.TheVariants.{Dead, TreeFull}
-use Rattle.reader.specs.Marks.{graph}
-use Rattle.reader.specs.Spread.{listed, Under}
+use Rattle.reader.specs.State.{step_space, Standing}
 use Rattle.reader.specs.Gather.{Parted}
-
--- what one step may add before it frees
-abbrev pub step_space : ℕ
-step_space = step_branches + step_reads
-
--- The live walks are `walks`, in order, and exactly their codes are in the tree.
-pub record Standing (s : Core) (walks : List Reached) : Type 0 where
-  pub live_size : length s.live.walks ≡ point_count
-  pub live_len : s.live.len ≤ point_count
-  pub found_size : length s.found.walks ≡ point_count
-  pub live : Under s.tree [] (listed s.live) walks
-  pub only : (k : ℕ) (ys : Code) → Held s.tree k ys → (q : ℕ) × In q ys walks
-  pub ordered : Ordered walks
-
--- fit for one more symbol
-pub record Fit (s : Core) : Type 0 where
-  pub walks : List Reached
-  pub standing : Standing s walks
-  pub space : step_space ≤ room s.tree
-
--- no point is marked, no walk is found, and all else is as it was
-pub record Cleared (s s' : Core) : Type 0 where
-  pub tree : s'.tree ≡ s.tree
-  pub live : s'.live ≡ s.live
-  pub marks : members s'.marks ≡ replicate point_count false
-  pub found : s'.found ≡ record { walks = s.found.walks; len = 0 }
 
 module _ {Symbol : Type 0} (L : Meaning Symbol) (pattern : Pattern) where
   -- the words of walks, at the pattern's graph from its entry
 
   abbrev pub LiveAt : List Symbol → ℕ → Code → Type 0
-  LiveAt w q c = Live L (graph pattern) (entry_of pattern) w q c
+  LiveAt w q c = Live L (graph_of pattern) (entry_of pattern) w q c
 
   abbrev pub SharedAt : List Symbol → Code → Type 0
-  SharedAt w h = Shared L (graph pattern) (entry_of pattern) w h
+  SharedAt w h = Shared L (graph_of pattern) (entry_of pattern) w h
 
   abbrev pub NoLiveAt : List Symbol → Type 0
-  NoLiveAt w = NoLive L (graph pattern) (entry_of pattern) w
+  NoLiveAt w = NoLive L (graph_of pattern) (entry_of pattern) w
 
   abbrev pub CountsAt : List Symbol → Code → ℕ → Type 0
-  CountsAt w h n = Counts L (graph pattern) (entry_of pattern) w h n
+  CountsAt w h n = Counts L (graph_of pattern) (entry_of pattern) w h n
 
   -- the list is that of the live walks of w: each is live, each point to which an allowed walk leads has one, and they are in order
   pub record ListsLive (w : List Symbol) (ls : List Reached) : Type 0 where
     pub sound : (q : ℕ) (c : Code) → In q c ls → LiveAt w q c
-    pub complete : (q : ℕ) (c : Code) → Allowed L (graph pattern) (entry_of pattern) w q c → (d : Code) × In q d ls
+    pub complete : (q : ℕ) (c : Code) → Allowed L (graph_of pattern) (entry_of pattern) w q c → (d : Code) × In q d ls
     pub ordered : Ordered ls
 
   -- s is the state after the symbols w, of whose walks the items h came off: the live walks are listed in order, h is what they share,
   -- and the tree counts their remainders, which are no more than it may count
   pub record StateOf (s : Core) (w : List Symbol) (h : Code) : Type 0 where
     pub walks : List Reached
-    pub standing : Standing s walks
+    pub standing : Standing s.traversal.tree s.live.items walks
     pub lists : ListsLive w (after h walks)
     pub shared : SharedAt w h
     pub size : ℕ
     pub counts : CountsAt w h size
-    pub count : size + room s.tree ≡ capacity
+    pub count : size + room s.traversal.tree ≡ capacity
     pub within : size ≤ countable
 
   -- some walk is live after w, and s is the state then
@@ -114,8 +86,8 @@ module _ {Symbol : Type 0} (L : Meaning Symbol) (pattern : Pattern) where
 -- all walks of the search from the entry, without what they share
 pub record Opened (pattern : Pattern) (s : Core) (xs : Code) : Type 0 where
   pub walks : List Reached
-  pub standing : Standing s walks
+  pub standing : Standing s.traversal.tree s.live.items walks
   pub marks : Points
-  pub search : Search (graph pattern) none (entry_of pattern) (after xs walks) marks
-  pub parted : Parted s.tree
-  pub space : step_space ≤ room s.tree
+  pub search : Search (graph_of pattern) none (entry_of pattern) (after xs walks) marks
+  pub parted : Parted s.traversal.tree
+  pub space : step_space ≤ room s.traversal.tree

@@ -1,55 +1,131 @@
 // The state of a reading.
+use crate::buffer::Buffer;
+use crate::stop::Stop;
+use alphabet::Alphabet;
+use arrayvec::ArrayVec;
+use pattern::Pattern;
 use pattern::limits::POINTS;
 use point_set::PointSet;
-use tree::limits::CAPACITY;
-use tree::paths::PathTree;
+use tree::limits::{COUNTABLE, FIRST_SLOT};
+use walk::Grammar;
 
-mod ends;
-mod gathers;
 mod holds;
-mod lines;
-mod moves;
-mod reads;
-mod starts;
-mod sweeps;
+mod traversal;
+
+use holds::dismiss;
+use traversal::Traversal;
 
 // A walk: the point that it ends on, and the slot of the tree that holds its code.
-#[derive(Clone, Copy)]
+#[derive(Clone, Copy, Default)]
 pub(crate) struct Walk {
     pub(crate) point: u8,
     pub(crate) slot: u16,
 }
 
 // Room for a walk to each point of a pattern and one to its end point.
-pub(crate) const WALKS: usize = POINTS + 1;
+const WALKS: usize = POINTS + 1;
 
-// Walks in order, earliest first: the first `len` of the array.
-#[derive(Drop)]
-pub(crate) struct Line {
-    pub(crate) walks: [Walk; WALKS],
-    pub(crate) len: usize,
-}
+// Walks in order, earliest first.
+pub(crate) type Line = ArrayVec<Walk, WALKS>;
 
-// The live walks, the tree that holds their codes past what came off, and what the step at one symbol works with:
-// the points that it has come to, which are marked, and the walks that it has found.
+// The live walks, and what the step at one symbol works with. The tree there holds their codes past what came off.
 #[derive(Drop)]
 pub(crate) struct Core {
-    pub(crate) tree: PathTree,
-    pub(crate) marks: PointSet,
+    pub(crate) traversal: Traversal,
     pub(crate) live: Line,
-    pub(crate) found: Line,
 }
 
-// Where a walk goes on when it reads a symbol: the next point, and the item of the read.
-#[derive(Clone, Copy)]
-pub(crate) struct Onward {
-    pub(crate) next: u8,
-    pub(crate) item: u32,
-}
+impl Core {
+    ghost use Rattle.std.specs.Prelude.{◌≡◌, ℕ, ◌<◌, ◌==◌, true, false, ◌↔◌, [], length, find};
+    ghost use Rattle.tree.specs.Limits.{capacity};
+    ghost use Rattle.reader.specs.Marks.{marked};
+    ghost use Rattle.reader.specs.Spread.{On};
+    ghost use Rattle.reader.specs.Calls.{held_in};
+    ghost use Rattle.reader.specs.State.{Fit};
+    ghost use Rattle.reader.specs.Reading.{Opened, Advances, Exactly};
+    ghost use Rattle.reader.specs.Ending.{Ends};
+    ghost use Rattle.reader.specs.Seen.{see, every};
 
-// Items that came off the tree: the first `len` of the array.
-#[derive(Drop)]
-pub(crate) struct Items {
-    pub(crate) items: [u32; CAPACITY],
-    pub(crate) len: usize,
+    // The walks of no symbols from the entry of the pattern. What they share comes off, into `out`.
+    pub(crate) fn open(pattern: &Pattern, out: &mut Buffer) -> Core
+        ensures { Opened pattern.now result (held_in out.new) }
+    {
+        let mut traversal = Traversal::new();
+        traversal.spread(pattern, pattern.entry(), FIRST_SLOT);
+        out.gather(&mut traversal.tree);
+        let live = traversal.found.take();
+        Core { traversal, live }
+    }
+
+    // Reads one symbol. What all live walks then share comes off, into `out`.
+    pub(crate) fn advance<A: Alphabet>(
+        &mut self,
+        grammar: &Grammar<'_, A>,
+        symbol: &A::Symbol,
+        out: &mut Buffer,
+    ) -> Result<(), Stop>
+        requires { Fit self.old.traversal.tree self.old.live.items }
+        ensures reads { Advances (A.meaning grammar.now.alphabet.now) grammar.now.pattern.now symbol.now self.old result self.new (held_in out.new) }
+        ensures seen { Advances every grammar.now.pattern.now (see (A.meaning grammar.now.alphabet.now) symbol.now) self.old result self.new (held_in out.new) }
+        ensures exact { Exactly (A.meaning grammar.now.alphabet.now) grammar.now.pattern.now symbol.now self.old result }
+    {
+        self.traversal.sweep(grammar, symbol, &self.live);
+        if self.traversal.found.is_empty() {
+            out.items.clear();
+            return Err(Stop::Dead);
+        }
+        out.gather(&mut self.traversal.tree);
+        if self.traversal.tree.count() > COUNTABLE {
+            out.items.clear();
+            return Err(Stop::TreeFull);
+        }
+        // Copied, since a swap of the two vectors moves both whole arrays: 168 ns a symbol, and copied 129.
+        self.live.clear();
+        self.live
+            .try_extend_from_slice(&self.traversal.found)
+            .unwrap();
+        Ok(())
+    }
+
+    // Whether a live walk ends on the end point. What is left of its code comes off, into `out`.
+    pub(crate) fn end<A: Alphabet>(&mut self, grammar: &Grammar<'_, A>, out: &mut Buffer) -> bool
+        requires { Fit self.old.traversal.tree self.old.live.items }
+        ensures none { result ≡ false → held_in out.new ≡ [] }
+        ensures few { length (held_in out.new) < capacity }
+        ensures ends { Ends (A.meaning grammar.now.alphabet.now) grammar.now.pattern.now self.old result (held_in out.new) }
+        ensures seen { Ends every grammar.now.pattern.now self.old result (held_in out.new) }
+    {
+        let end = grammar.pattern.count();
+        if self.walk_to(end).is_none() {
+            out.items.clear();
+            return false;
+        }
+        let tree = &mut self.traversal.tree;
+        for walk in self.live.iter() {
+            if walk.point != end {
+                dismiss(tree, walk.slot);
+            }
+        }
+        out.gather(tree);
+        true
+    }
+
+    // The live walk that ends on a point, if there is one.
+    fn walk_to(&self, point: u8) -> Option<Walk>
+        ensures { result ≡ find (λ w. w.point == point) self.now.live.items }
+    {
+        self.live.iter().copied().find(|walk| walk.point == point)
+    }
+
+    // The points on which the live walks end.
+    pub(crate) fn live_points(&self) -> PointSet
+        ensures { (q : ℕ) → (marked result q ≡ true) ↔ On q self.now.live.items }
+    {
+        let mut points = PointSet::new();
+        for walk in self.live.iter() {
+            let point = walk.point;
+            points.insert(point);
+        }
+        points
+    }
 }

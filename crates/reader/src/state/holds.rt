@@ -8,10 +8,7 @@ pub(crate) fn extend(tree: &mut PathTree, under: u16, item: u32) -> u16
     requires { Addable tree.old under item }
     ensures { Added tree.old under item result tree.new }
 {
-    match tree.add(under, item) {
-        Ok(slot) => slot,
-        Err(_) => unreachable(),
-    }
+    tree.add(under, item).unwrap()
 }
 
 // Lets a holder go.
@@ -19,8 +16,5 @@ pub(crate) fn dismiss(tree: &mut PathTree, holder: u16)
     requires { Holder tree.old holder }
     ensures { Released tree.old holder tree.new }
 {
-    match tree.release(holder) {
-        Ok(()) => (),
-        Err(_) => unreachable(),
-    }
+    tree.release(holder).unwrap();
 }

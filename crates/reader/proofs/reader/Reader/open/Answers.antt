@@ -1,19 +1,14 @@
-use Rattle.std.proofs.Common.{[], refl}
+use Rattle.std.proofs.Common.{[]}
 use Rattle.reader.specs.Seen.{every}
-use Rattle.reader.specs.Gather.{items_of}
+use Rattle.reader.specs.Calls.{held_in}
 use Rattle.reader.proofs.Opening.{starts}
 use Rattle.reader.proofs.reader.Reader.open.Goals as goal
 
 pub invariant_of-result : goal.invariant_of-result
-invariant_of-result g c = record { stands = λ _. ∣ ([], (items_of c.open-core.new.out, starts c.args.pattern.now c.open-core.result (items_of c.open-core.new.out) c.open-core.ensures.opened every)) ∣₁ }
+invariant_of-result g c = record { stands = λ _. ∣ ([], (held_in c.open-core.new.out, starts c.args.pattern.now c.open-core.result (held_in c.open-core.new.out) c.open-core.ensures every)) ∣₁ }
 
-pub returns : goal.returns
-returns g c =
-    let O = c.open-core.ensures.opened in
-    record {
-      pattern = refl;
-      alphabet = refl;
-      fresh = refl;
-      starts = starts c.args.pattern.now c.open-core.result (items_of c.open-core.new.out) O (g.A.Alphabet.meaning c.args.alphabet.now);
-      seen = starts c.args.pattern.now c.open-core.result (items_of c.open-core.new.out) O every;
-    }
+pub returns-clause-starts : goal.returns-clause-starts
+returns-clause-starts g c = starts c.args.pattern.now c.open-core.result (held_in c.open-core.new.out) c.open-core.ensures (g.A.Alphabet.meaning c.args.alphabet.now)
+
+pub returns-clause-seen : goal.returns-clause-seen
+returns-clause-seen g c = starts c.args.pattern.now c.open-core.result (held_in c.open-core.new.out) c.open-core.ensures every
