@@ -24,25 +24,26 @@ use Rattle.replay.proofs.Refiled.{moved_pair_by}
 use Rattle.run.specs.declared.calls.Call.{Call}
 use Rattle.run.specs.declared.calls.Answer.{Answer}
 use Rattle.run.specs.declared.finished.Finished.{Finished}
-use Rattle.run.specs.Words.{graph_of, end_of, Known, CodesAs}
+use Rattle.walk.specs.Graphs.{graph_of}
+use Rattle.run.specs.Words.{end_of, Known, CodesAs}
 use Rattle.run.specs.Sinks.{Standing}
 use Rattle.run.specs.Stages.{Stage, OpenEnded, Closed}
 use Rattle.run.specs.Performed.{Reads}
 use Rattle.filing.specs.Channels.{written, fed}
 use Rattle.filing.specs.Filed.{bits_and_text, fresh, Files}
 use Rattle.filing.proofs.Courses.{open_or_failed, grown_written}
-use Rattle.filing.proofs.Feeding.{Feeding, not_both, through_feeding}
-use Rattle.filing.proofs.Kept.{ok_not_err, all_handed}
+use Rattle.filing.proofs.Feeding.{Feeding, through_feeding}
+use Rattle.filing.proofs.Kept.{all_handed}
 
 module _ {S : Type 0} (L : Meaning S) (p : Pattern) (K : SinkMeaning) where
   -- where a finish is answered the run was open
   open_at_last : (a : Stage S K.Position) (t : Standing K.Position) (r : Finished) → Closed L p K a t (Ok r) → a.fault ≡ None
   open_at_last a t r h =
-      elim (open_or_failed a.fault) [ inl e ↦ e | inr e ↦ ok_not_err r e.0 (h.failed e.0 e.1).0 ]
+      elim (open_or_failed a.fault) [ inl e ↦ e | inr e ↦ cc ((h.failed e.0 e.1).0) ]
 
   known_open : (b : Stage S K.Position) (o : Option Fault) → o ≡ None → OpenEnded L p K b o → Known L p
   known_open b None e h = h.0
-  known_open b (Some f) e h = not_both (Some f) f e refl
+  known_open b (Some f) e h = cc
 
   module _ {s : Standing K.Position} {calls : List (Call S)} {log : List Answer} {x : List ℕ} {n : ℕ} {r : Finished}
       {t : Standing K.Position} {log' : List Answer} {y : List ℕ} (R : Reads L p K s calls log x true n (Some (Ok r)) t log' y) where

@@ -1,5 +1,5 @@
 -- The symbols that calls feed, and those that are read.
-use Rattle.std.proofs.Common.{◌≡◌, ℕ, List, [], ◌∷◌, ◌++◌, Some, None, Option, Result, sym, refl, ap, ◌∙◌, inl, inr, append_assoc, append-nil, arith}
+use Rattle.std.proofs.Common.{◌≡◌, ℕ, List, [], ◌∷◌, ◌++◌, Some, None, Option, Result, sym, refl, ap, ◌∙◌, inl, inr, append_assoc, append-nil}
 use Rattle.fault.specs.declared.refusal.Fault.{Fault}
 use Rattle.alphabet.specs.Meaning.{Meaning}
 use Rattle.pattern.specs.declared.pattern.Pattern.{Pattern}
@@ -12,9 +12,6 @@ use Rattle.run.specs.Stages.{Stage, Fed, FedEnded, FedOpen}
 use Rattle.run.specs.Performed.{Poured, Through}
 use Rattle.filing.specs.Channels.{fed}
 use Rattle.filing.proofs.Courses.{open_or_failed}
-
-pub not_both : {X : Type 0} (o : Option Fault) (f : Fault) → o ≡ None → o ≡ Some f → X
-not_both o f a b = let z : ◌≡◌ {A = ℕ} 0 1 = cc in absurd (omega arith)
 
 module _ {S : Type 0} (L : Meaning S) (p : Pattern) (K : SinkMeaning) where
   -- From the stage a to the stage z the symbols w were fed: a beginning of them was read, and a rest was not. A run that is open at z was open at a and has
@@ -31,7 +28,7 @@ module _ {S : Type 0} (L : Meaning S) (p : Pattern) (K : SinkMeaning) where
 
   nothing_left : (left : List S) (b : Stage S K.Position) (o : Option Fault) → o ≡ None → FedEnded L p K left b o → left ≡ []
   nothing_left left b None e h = h
-  nothing_left left b (Some f) e h = not_both (Some f) f e refl
+  nothing_left left b (Some f) e h = cc
 
   feed_open : (piece : List S) (a b : Stage S K.Position) → a.fault ≡ None → FedOpen L p K piece a b → Feeding a b piece
   feed_open piece a b e o =
@@ -39,7 +36,7 @@ module _ {S : Type 0} (L : Meaning S) (p : Pattern) (K : SinkMeaning) where
         rest = o.left;
         read = ap (λ (v : List S). a.read ++ v) o.parts ∙ sym (append_assoc a.read o.part o.left) ∙ ap (λ (v : List S). v ++ o.left) (sym o.reads);
         opened = λ i. (e, nothing_left o.left b b.fault i o.ended);
-        failed = λ f i. not_both a.fault f e i;
+        failed = λ f i. cc;
       }
 
   feed_failed : (piece : List S) (a b : Stage S K.Position) (f : Fault) → a.fault ≡ Some f → b ≡ a → Feeding a b piece
@@ -48,7 +45,7 @@ module _ {S : Type 0} (L : Meaning S) (p : Pattern) (K : SinkMeaning) where
       record {
         rest = piece;
         read = ap (λ (v : List S). v ++ piece) (sym r);
-        opened = λ o. not_both b.fault f o (ap (λ (c : Stage S K.Position). c.fault) i ∙ e);
+        opened = λ o. cc;
         failed = λ g k. r;
       }
 
@@ -72,7 +69,7 @@ module _ {S : Type 0} (L : Meaning S) (p : Pattern) (K : SinkMeaning) where
         rest = g.rest;
         read = sym (append_assoc a.read v w) ∙ ap (λ (u : List S). u ++ w) here ∙ g.read;
         opened = λ i. (o.0, (g.opened i).1);
-        failed = λ h i. not_both a.fault h o.0 i;
+        failed = λ h i. cc (o.0);
       }
 
   after_failed : (a b z : Stage S K.Position) (v w : List S) (f : Feeding a b v) (g : Feeding b z w) (h : Fault) → b.fault ≡ Some h → Feeding a z (v ++ w)
@@ -84,7 +81,7 @@ module _ {S : Type 0} (L : Meaning S) (p : Pattern) (K : SinkMeaning) where
             sym (append_assoc a.read v w)
             ∙ ap (λ (u : List S). u ++ w) (f.read ∙ ap (λ (u : List S). u ++ f.rest) (sym stays))
             ∙ append_assoc z.read f.rest w;
-        opened = λ i. not_both b.fault h (g.opened i).0 e;
+        opened = λ i. cc ((g.opened i).0);
         failed = λ k i. stays ∙ f.failed k i;
       }
 

@@ -1,5 +1,5 @@
 -- Nothing is lost: the opening, the calls and the finish put together.
-use Rattle.std.proofs.Common.{◌≡◌, ℕ, Bool, true, false, List, [], ◌++◌, length, Some, None, Ok, Err, Option, Result, sym, refl, ap, ◌∙◌, subst, inl, inr, append-nil, arith}
+use Rattle.std.proofs.Common.{◌≡◌, ℕ, Bool, true, false, List, [], ◌++◌, length, Some, None, Ok, Err, Option, Result, sym, refl, ap, ◌∙◌, subst, inl, inr, append-nil}
 use Rattle.fault.specs.declared.refusal.Fault.{Fault}
 use Rattle.alphabet.specs.Meaning.{Meaning}
 use Rattle.pattern.specs.declared.pattern.Pattern.{Pattern}
@@ -18,9 +18,6 @@ use Rattle.filing.specs.Channels.{written, fed, drawn}
 use Rattle.filing.specs.Laws.{InAll, Kept, NothingLost}
 use Rattle.filing.proofs.Courses.{taken_course, course_then, through_course, open_or_failed}
 use Rattle.filing.proofs.Feeding.{through_feeding}
-
-pub ok_not_err : {X V : Type 0} (v : V) (f : Fault) → ◌≡◌ {A = Result V Fault} (Ok v) (Err f) → X
-ok_not_err v f e = let z : ◌≡◌ {A = ℕ} 0 1 = cc in absurd (omega arith)
 
 module _ {S : Type 0} (L : Meaning S) (p : Pattern) (K : SinkMeaning) where
   -- a sink before any call of a run
@@ -63,7 +60,7 @@ module _ {S : Type 0} (L : Meaning S) (p : Pattern) (K : SinkMeaning) where
   closing_open a t (Err f) (inr h) = closing_stopped a t f h
 
   closing_failed : (a : Stage S K.Position) (t : Standing K.Position) (r : Result Finished Fault) (f : Fault) → r ≡ Err f → t ≡ a.sink → Closing a (Some r) t
-  closing_failed a t (Ok r) f e i = ok_not_err r f e
+  closing_failed a t (Ok r) f e i = cc
   closing_failed a t (Err g) f e i = closing_still a (Some (Err g)) t i (λ items k. inl k)
 
   closing : (finish : Bool) (a : Stage S K.Position) (last : Option (Result Finished Fault)) (t : Standing K.Position) → Ends L p K finish a last t → Closing a last t

@@ -3,4 +3,3 @@ mod Feeding
 mod Kept
 mod Accepted
 mod Replaying
-mod Beginning

@@ -7,10 +7,10 @@ use Rattle.pattern.specs.declared.pattern.Pattern.{Pattern}
 use Rattle.pattern.specs.Patterns.{entry_of}
 use Rattle.sink.specs.Meaning.{Meaning as SinkMeaning}
 use Rattle.walk.specs.Codes.{Code}
-use Rattle.walk.specs.Graphs.{none}
+use Rattle.walk.specs.Graphs.{none, graph_of}
 use Rattle.replay.specs.Bits.{bits_of}
 use Rattle.replay.specs.Tracing.{Verdict, complete}
-use Rattle.replay.specs.Outcome.{graph, Outcome}
+use Rattle.replay.specs.Outcome.{Outcome}
 use Rattle.replay.specs.Theorems.{marked}
 use Rattle.replay.proofs.Graphs.{end_of, is_end}
 use Rattle.replay.proofs.Telling.{one_trace}
@@ -25,16 +25,15 @@ use Rattle.text.specs.TextMeaning.{text_of_items}
 use Rattle.text.specs.TextState.{start_of}
 use Rattle.filing.specs.Channels.{fed}
 use Rattle.filing.specs.Filed.{bits_and_text, ReplayedWhole, Files, FilesGreedy, ReadingReplayed, CutFree}
-use Rattle.filing.proofs.Kept.{ok_not_err}
 use Rattle.filing.proofs.Accepted.{classes_known, filed_whole}
 
 module _ {S : Type 0} (L : Meaning S) (p : Pattern) where
   pub replayed_whole : (K : SinkMeaning) (bits : List ℕ) (w : List S) (g : Code) → Known L p → CodesAs L p w g → bits ≡ packed (choices g) → ReplayedWhole L p K bits w g
-  replayed_whole K bits w g known walk packs q s all r q' s' (inl x) = absurd (known_not L (graph p) K q s r q' s' known x)
+  replayed_whole K bits w g known walk packs q s all r q' s' (inl x) = absurd (known_not L (graph_of p) K q s r q' s' known x)
   replayed_whole K bits w g known walk packs q s all r q' s' (inr x) =
       let c = walk.0 in
-      let traces = walk_traces L (graph p) (entry_of p) (end_of p) (is_end p) bits w c walk.1.0 (packs ∙ ap (λ (d : Code). packed (choices d)) walk.2 ∙ ap packed (choices_marked c)) in
-      let one = one_trace L (graph p) (bits_of bits) w none (entry_of p) x.code (marked c) x.verdict complete x.traces traces in
+      let traces = walk_traces L (graph_of p) (entry_of p) (end_of p) (is_end p) bits w c walk.1.0 (packs ∙ ap (λ (d : Code). packed (choices d)) walk.2 ∙ ap packed (choices_marked c)) in
+      let one = one_trace L (graph_of p) (bits_of bits) w none (entry_of p) x.code (marked c) x.verdict complete x.traces traces in
       let same : x.code ≡ g = one.0 ∙ sym walk.2 in
       outcome_whole K q s g r q' s'
       (subst (λ (v : Verdict). Outcome K q s g v r q' s') one.1 (subst (λ (d : Code). Outcome K q s d x.verdict r q' s') same x.outcome)) all
@@ -49,7 +48,7 @@ module _ {S : Type 0} (L : Meaning S) (p : Pattern) where
   files_greedy manner calls log x n (Ok z) t log' y R r e =
       let i : z ≡ r = cc in
       subst (Files L p R) i (filed_whole L p R)
-  files_greedy manner calls log x n (Err f) t log' y R r e = ok_not_err r f (sym e)
+  files_greedy manner calls log x n (Err f) t log' y R r e = cc
 
   pub cut_free : CutFree L p
   cut_free manner calls calls₂ log log₂ x x₂ n n₂ r r₂ t t₂ log' log₂' y y₂ R Q e =

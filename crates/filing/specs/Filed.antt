@@ -18,7 +18,8 @@ use Rattle.text.specs.TextMeaning.{text_meaning, text_of_items, ended as text_en
 use Rattle.text.specs.declared.text.Text.{Text}
 use Rattle.text.specs.TextState.{start_of, text_position, text_stock}
 use Rattle.walk.specs.Codes.{Code}
-use Rattle.replay.specs.Outcome.{graph, Replays}
+use Rattle.walk.specs.Graphs.{graph_of}
+use Rattle.replay.specs.Outcome.{Replays}
 use Rattle.run.specs.declared.calls.Call.{Call}
 use Rattle.run.specs.declared.calls.Answer.{Answer}
 use Rattle.run.specs.declared.finished.Finished.{Finished}
@@ -39,13 +40,6 @@ fresh p manner = stand (unfilled [], start_of p manner) (pair_stocks nothing not
 -- where a pair of such sinks stands
 abbrev pub standing_of : Pair Bits Text → Standing bits_and_text.Position
 standing_of s = stand (bits_position s.first, text_position s.second) (pair_stocks (bits_stock s.first) (text_stock s.second))
-
--- both sinks of the pair are fresh: no bit yet, the text at the pattern's entry, nothing in stock
-pub record Fresh (p : Pattern) (manner : Manner) (s : Pair Bits Text) : Type 0 where
-  pub no_bit : bits_position s.first ≡ unfilled []
-  pub no_bits_held : bits_stock s.first ≡ nothing
-  pub at_entry : text_position s.second ≡ start_of p manner
-  pub no_text_held : text_stock s.second ≡ nothing
 
 -- the channel of the bits, and that of the text
 abbrev pub bits_channel : ℕ
@@ -69,7 +63,7 @@ module _ {S : Type 0} (L : Meaning S) (p : Pattern) where
   -- a replay of the bits over the symbols w hands exactly these items to any sink that takes them, wherever it stands and whatever it holds
   abbrev pub ReplayedWhole : SinkMeaning → List ℕ → List S → Code → Type 0
   ReplayedWhole K bits w items = (q : K.Position) (s : Stocks) → all_taken K q s items ≡ true →
-      (r : Result ℕ Fault) (q' : K.Position) (s' : Stocks) → Replays L (graph p) (entry_of p) bits w K q s r q' s' →
+      (r : Result ℕ Fault) (q' : K.Position) (s' : Stocks) → Replays L (graph_of p) (entry_of p) bits w K q s r q' s' →
       (r ≡ Ok (length items)) × (q' ≡ moved_by K q items) × (s' ≡ grown_by K q s items)
 
   module _ {manner : Manner} {calls : List (Call S)} {log : List Answer} {x : List ℕ} {n : ℕ} {last : Result Finished Fault} {t : Standing bits_and_text.Position}

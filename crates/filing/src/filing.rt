@@ -1,14 +1,13 @@
 // An input read into a fresh sink of bits and a fresh sink of text.
 ghost use Rattle.std.specs.Prelude.{true, Some};
-ghost use Rattle.run.specs.Giving.{stand};
 ghost use Rattle.run.specs.Performed.{Reads};
-ghost use Rattle.filing.specs.Filed.{bits_and_text, fresh, standing_of, Fresh, FilesGreedy};
+ghost use Rattle.filing.specs.Filed.{bits_and_text, fresh, standing_of, FilesGreedy};
 
 use alphabet::Alphabet;
 use fault::Fault;
 use pattern::Pattern;
 use run::{Answer, Call, Finished, perform};
-use sink::{Bits, Pair, Sink};
+use sink::{Bits, Pair};
 use text::{Manner, Text};
 
 // A reading that is over: the sinks, of which what was not drawn may still be poured, how many items the opening handed over, and the finish's answer.
@@ -17,34 +16,6 @@ pub struct Filed<'p> {
     pub sinks: Pair<Bits, Text<'p>>,
     pub opened: u64,
     pub finished: Result<Finished, Fault>,
-}
-
-// Fresh bits and text over a pattern.
-fn fresh_sinks(pattern: &Pattern, manner: Manner) -> Pair<Bits, Text<'_>>
-    ensures { Fresh pattern.now manner result }
-{
-    Pair {
-        first: Bits::new(),
-        second: Text::new(pattern, manner),
-    }
-}
-
-// Opens a run, makes the calls and finishes; answers how many items the opening handed over, and the finish's answer.
-fn perform_whole<'p, A: Alphabet, K: Sink>(
-    pattern: &'p Pattern,
-    alphabet: &'p A,
-    sink: &mut K,
-    calls: &[Call<'_, A::Symbol>],
-    log: &mut [Answer],
-    buffer: &mut [u8],
-) -> (u64, Result<Finished, Fault>)
-    ensures { Reads (A.Alphabet.meaning alphabet.now) pattern.now K.Sink.meaning (stand (K.Sink.position sink.old) (K.Sink.stock sink.old)) calls.now log.old buffer.old true result.0 (Some result.1) (stand (K.Sink.position sink.new) (K.Sink.stock sink.new)) log.new buffer.new }
-{
-    let (opened, last) = perform(pattern, alphabet, sink, calls, log, buffer, true);
-    match last {
-        Some(finished) => (opened, finished),
-        None => unreachable(),
-    }
 }
 
 // Reads into fresh bits and text: opens a run, makes the calls one after another, and finishes. Channel 0 has the bits and channel 1 the text.
@@ -61,8 +32,14 @@ pub fn file<'p, A: Alphabet>(
     ensures reads { Reads (A.Alphabet.meaning alphabet.now) pattern.now bits_and_text (fresh pattern.now manner) calls.now log.old buffer.old true result.opened (Some result.finished) (standing_of result.sinks) log.new buffer.new }
     ensures files { FilesGreedy (A.Alphabet.meaning alphabet.now) pattern.now manner calls.now log.old buffer.old result.opened result.finished (standing_of result.sinks) log.new buffer.new }
 {
-    let mut sinks = fresh_sinks(pattern, manner);
-    let (opened, finished) = perform_whole(pattern, alphabet, &mut sinks, calls, log, buffer);
+    let mut sinks = Pair {
+        first: Bits::new(),
+        second: Text::new(pattern, manner),
+    };
+    let (opened, Some(finished)) = perform(pattern, alphabet, &mut sinks, calls, log, buffer, true)
+    else {
+        unreachable()
+    };
     Filed {
         sinks,
         opened,

@@ -14,15 +14,14 @@ use Rattle.reader.specs.declared.stop.Stop.{Stop}
 use Rattle.reader.specs.Reading.{StateOf as ReadingOf}
 use Rattle.reader.specs.Calls.{Finishes, Finished as AnsweredAt, ShowsLive}
 use Rattle.run.specs.declared.finished.Finished.{Finished}
-use Rattle.walk.specs.Graphs.{ClassesBelow}
-use Rattle.run.specs.Words.{graph_of, Known, Unknown, Accepts, CodesAs}
+use Rattle.run.specs.Words.{Known, Unknown, Accepts, CodesAs}
 use Rattle.run.specs.Sinks.{Standing}
-use Rattle.std.specs.Result.{result_err}
+use Rattle.std.specs.Result.{result_err, result_unwrap_or}
 use Rattle.run.specs.Giving.{Gives}
 use Rattle.run.specs.Stages.{Stage, fault_at, Finishing}
-use Rattle.run.specs.Inner.{Inner, StateOf, Opens, Closes, CountsLive, LiveTold, Beyond, accepted_in}
+use Rattle.run.specs.Inner.{Inner, StateOf, Opens, Closes, CountsLive, LiveTold}
 use Rattle.run.proofs.Patterned.{hopeful}
-use Rattle.run.proofs.Standings.{never_none, live_of, stands_open, stands_failed, stands_nothing}
+use Rattle.run.proofs.Standings.{live_of, stands_open, stands_failed, stands_nothing}
 use Rattle.run.proofs.Steps.{Inhabited}
 
 module _ {S : Type 0} (L : Meaning S) (p : Pattern) where
@@ -43,9 +42,9 @@ module _ {S : Type 0} (L : Meaning S) (p : Pattern) where
         count = dr;
         total = dh;
         fault_is = df;
-        known = λ q. never_none (Some f) f refl q;
-        going = λ q. never_none (Some f) f refl q;
-        reading = λ q. never_none (Some f) f refl q;
+        known = λ q. cc;
+        going = λ q. cc;
+        reading = λ q. cc;
         stands = stands_nothing L p s [] f;
       }
 
@@ -100,9 +99,9 @@ module _ {S : Type 0} (L : Meaning S) (p : Pattern) where
                 count = dr;
                 total = dh ∙ G.counted;
                 fault_is = df;
-                known = λ q. never_none (Some f) f refl q;
-                going = λ q. never_none (Some f) f refl q;
-                reading = λ q. never_none (Some f) f refl q;
+                known = λ q. cc;
+                going = λ q. cc;
+                reading = λ q. cc;
                 stands = stands_failed L p t [] G.done f xs R.shared (Z.item ∷ Z.rest, Z.cut);
               },
               refl,
@@ -116,29 +115,29 @@ module _ {S : Type 0} (L : Meaning S) (p : Pattern) where
         let af = sym st.fault_is ∙ cf in
         record {
           failed = λ g q. (let z : f ≡ g = cc in ap (λ (x : Fault). Err x) z, sym es);
-          opened = λ n. never_none a.fault f af n;
+          opened = λ n. cc;
         }
 
     -- an input that is not accepted: the reader does not answer that it is
-    not_so : (r : Result Bool Stop) (w : List S) (h xs : Code) → accepted_in r ≡ false → AnsweredAt L p r w h xs → Accepts L p w → ⊥
+    not_so : (r : Result Bool Stop) (w : List S) (h xs : Code) → result_unwrap_or r false ≡ false → AnsweredAt L p r w h xs → Accepts L p w → ⊥
     not_so (Ok true) w h xs n A = absurd (both_ways true n refl)
     not_so (Ok false) w h xs n A = A.0
     not_so (Err f) w h xs n A = absurd A
 
-    is_so : (r : Result Bool Stop) (w : List S) (h xs : Code) → accepted_in r ≡ true → AnsweredAt L p r w h xs → CodesAs L p w (h ++ xs)
+    is_so : (r : Result Bool Stop) (w : List S) (h xs : Code) → result_unwrap_or r false ≡ true → AnsweredAt L p r w h xs → CodesAs L p w (h ++ xs)
     is_so (Ok true) w h xs n A = A
     is_so (Ok false) w h xs n A = absurd (both_ways false refl n)
     is_so (Err f) w h xs n A = absurd A
 
-    pub finish_denied : (c : Inner) (s : Standing K.Position) (r : Result Bool Stop) (xs : Code) → c.fault ≡ None → accepted_in r ≡ false
-        → (c.stop ≡ None → Finishes L p c.core r xs) → Closes L p K c s (Err (fault_at NotAccepted c.read)) s
-    finish_denied c s r xs cn not F a st es =
+    pub finish_denied : (c : Inner) (s : Standing K.Position) (r : Result Bool Stop) (xs : Code) (f : Fault) → c.fault ≡ None → result_unwrap_or r false ≡ false
+        → (c.stop ≡ None → Finishes L p c.core r xs) → f ≡ fault_at NotAccepted c.read → Closes L p K c s (Err f) s
+    finish_denied c s r xs f cn not F fe a st es =
         let an = sym st.fault_is ∙ cn in
         record {
-          failed = λ g q. never_none a.fault g q an;
+          failed = λ g q. cc;
           opened = λ _. inl (record {
             denied = not_so r a.read a.handed xs not (F (st.going an) a.read a.handed (st.reading an));
-            fault = ap (fault_at NotAccepted) st.count;
+            fault = fe ∙ ap (fault_at NotAccepted) st.count;
             still = sym es;
           });
         }
@@ -155,7 +154,7 @@ module _ {S : Type 0} (L : Meaning S) (p : Pattern) where
           stood = rw es G.stood;
         }
 
-    pub finish_all : (c : Inner) (s t : Standing K.Position) (r : Result Bool Stop) (xs : Code) (n : ℕ) (v : Unit {0}) (z : Finished) → c.fault ≡ None → accepted_in r ≡ true
+    pub finish_all : (c : Inner) (s t : Standing K.Position) (r : Result Bool Stop) (xs : Code) (n : ℕ) (v : Unit {0}) (z : Finished) → c.fault ≡ None → result_unwrap_or r false ≡ true
         → (c.stop ≡ None → Finishes L p c.core r xs) → Gives K s xs c.read n (Ok v) t
         → z.items ≡ c.handed + n → z.symbols ≡ c.read → Closes L p K c s (Ok z) t
     finish_all c s t r xs n v z cn so F G zi zs a st es =
@@ -165,7 +164,7 @@ module _ {S : Type 0} (L : Meaning S) (p : Pattern) where
         let e = ap length G.ended in
         let q = length-append a.handed xs in
         record {
-          failed = λ f y. never_none a.fault f y an;
+          failed = λ f y. cc;
           opened = λ _. record {
             course = course c s t xs n (Ok v) a es g G;
             whole = ap (λ (ys : Code). a.handed ++ ys) (sym G.ended);
@@ -174,7 +173,7 @@ module _ {S : Type 0} (L : Meaning S) (p : Pattern) where
           };
         }
 
-    pub finish_stopped : (c : Inner) (s t : Standing K.Position) (r : Result Bool Stop) (xs : Code) (n : ℕ) (f : Fault) → c.fault ≡ None → accepted_in r ≡ true
+    pub finish_stopped : (c : Inner) (s t : Standing K.Position) (r : Result Bool Stop) (xs : Code) (n : ℕ) (f : Fault) → c.fault ≡ None → result_unwrap_or r false ≡ true
         → (c.stop ≡ None → Finishes L p c.core r xs) → Gives K s xs c.read n (Err f) t
         → Closes L p K c s (Err f) t
     finish_stopped c s t r xs n f cn so F G a st es =
@@ -182,7 +181,7 @@ module _ {S : Type 0} (L : Meaning S) (p : Pattern) where
         let g = is_so r a.read a.handed xs so (F (st.going an) a.read a.handed (st.reading an)) in
         let Z = G.ended in
         record {
-          failed = λ h z. never_none a.fault h z an;
+          failed = λ h z. cc;
           opened = λ _. inr (record {
             course = course c s t xs n (Err f) a es g G;
             stopped = record {
@@ -197,10 +196,3 @@ module _ {S : Type 0} (L : Meaning S) (p : Pattern) where
 
     pub closes_so : (c : Inner) (s t : Standing K.Position) (r q : Result Finished Fault) → r ≡ q → Closes L p K c s q t → Closes L p K c s r t
     closes_so c s t r q e h = subst (λ (z : Result Finished Fault). Closes L p K c s z t) (sym e) h
-
--- the count that the alphabet tells is that of its meaning
-pub known_at : {S : Type 0} (L : Meaning S) (p : Pattern) (n : ℕ) → n ≡ L.classes → ClassesBelow n (graph_of p) → Known L p
-known_at L p n e h = λ q class k z. let i = h q class k z in omega (arith, e, i)
-
-pub unknown_at : {S : Type 0} (L : Meaning S) (p : Pattern) (n : ℕ) → n ≡ L.classes → Beyond n p → Unknown L p
-unknown_at L p n e b = (b.0, b.1, b.2, b.3, (let i = b.4 in omega (arith, e, i)))

@@ -1,5 +1,5 @@
 -- Feeds put together.
-use Rattle.std.proofs.Common.{◌≡◌, ℕ, suc, ◌+◌, ◌-◌, ◌<◌, true, cond, List, [], ◌∷◌, ◌++◌, map, length, get_or, take, drop, is_ok, Some, None, Ok, Err, Option, Result, sym, refl, ap, ◌∙◌, subst, ap₂, inl, inr, append_assoc, append-nil, add-one, arith, take-suc}
+use Rattle.std.proofs.Common.{◌≡◌, ℕ, suc, ◌+◌, ◌-◌, ◌<◌, true, cond, List, [], ◌∷◌, ◌++◌, map, length, get_or, take, drop, is_ok, Some, None, Ok, Err, Option, Result, sym, refl, ap, ◌∙◌, subst, ap₂, inl, inr, append_assoc, append-nil, add-one, take-suc}
 use mathlib.Core.List.{map-append}
 use lib.Seq.{split_at}
 use Rattle.fault.specs.declared.refusal.Fault.{Fault}
@@ -13,7 +13,6 @@ use Rattle.reader.specs.Seen.{see, every}
 use Rattle.run.specs.Sinks.{Standing, after_items, Takes}
 use Rattle.run.specs.Stages.{Stage, AllReadable, FedEnded, told}
 use Rattle.run.specs.Inner.{Inner, FeedsOpen, Feeds}
-use Rattle.run.proofs.Standings.{never_none}
 
 module _ (K : SinkMeaning) where
   pub after_append : (t : Standing K.Position) (xs ys : Code) → after_items K t (xs ++ ys) ≡ after_items K (after_items K t xs) ys
@@ -41,14 +40,14 @@ module _ {S : Type 0} (L : Meaning S) (p : Pattern) where
   module _ (K : SinkMeaning) where
     ended_none : (left : List S) (b : Stage S K.Position) (o : Option Fault) → o ≡ None → left ≡ [] → FedEnded L p K left b o
     ended_none left b None e h = h
-    ended_none left b (Some f) e h = never_none (Some f) f refl e
+    ended_none left b (Some f) e h = cc
 
     none_ended : (left : List S) (b : Stage S K.Position) (o : Option Fault) → o ≡ None → FedEnded L p K left b o → left ≡ []
     none_ended left b None e h = h
-    none_ended left b (Some f) e h = never_none (Some f) f refl e
+    none_ended left b (Some f) e h = cc
 
     some_longer : (left v : List S) (b : Stage S K.Position) (o : Option Fault) (f : Fault) → o ≡ Some f → FedEnded L p K left b o → FedEnded L p K (left ++ v) b o
-    some_longer left v b None f e h = never_none None f e refl
+    some_longer left v b None f e h = cc
     some_longer left v b (Some g) f e (inl h) =
         inl (record { symbol = h.symbol; rest = h.rest ++ v; first = ap (λ (l : List S). l ++ v) h.first; settled = h.settled; due = h.due; there = h.there })
     some_longer left v b (Some g) f e (inr h) = inr h
@@ -131,7 +130,7 @@ module _ {S : Type 0} (L : Meaning S) (p : Pattern) where
           b,
           (
             record {
-              failed = λ f e. never_none a.fault f e an;
+              failed = λ f e. cc;
               opened = λ _. g;
               answer = rw (← sb.fault_is, ← sb.total, ← st.total) re;
             },
@@ -145,7 +144,7 @@ module _ {S : Type 0} (L : Meaning S) (p : Pattern) where
       (
         record {
           failed = λ _ _. refl;
-          opened = λ n. never_none a.fault f (sym st.fault_is ∙ cf) n;
+          opened = λ n. cc;
           answer = rw (← st.fault_is, cf);
         },
         (st, es),
@@ -195,12 +194,12 @@ module _ {S : Type 0} (piece : List S) (i : ℕ) (x : S) (here : i < length piec
 
 -- what an answer says of the fault
 pub told_back : {V : Type 0} (o : Option Fault) (f : Fault) (v : V) → ◌≡◌ {A = Result V Fault} (Err f) (told o v) → o ≡ Some f
-told_back None f v e = let z : ◌≡◌ {A = ℕ} 0 1 = cc in absurd (omega arith)
+told_back None f v e = cc
 told_back (Some g) f v e = cc
 
 pub told_none : {V : Type 0} (o : Option Fault) (w v : V) → ◌≡◌ {A = Result V Fault} (Ok w) (told o v) → o ≡ None
 told_none None w v e = refl
-told_none (Some g) w v e = let z : ◌≡◌ {A = ℕ} 0 1 = cc in absurd (omega arith)
+told_none (Some g) w v e = cc
 
 pub told_since : {V : Type 0} (o : Option Fault) (w v : V) → o ≡ None → w ≡ v → ◌≡◌ {A = Result V Fault} (Ok w) (told o v)
 told_since o w v e f = rw (e, f)

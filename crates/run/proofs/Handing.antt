@@ -1,17 +1,31 @@
 -- Items handed over one after another, by how many are taken.
 use Rattle.std.proofs.Common.{◌≡◌, ℕ, suc, ◌≤◌, Bool, true, false, cond, [], ◌∷◌, length, take, is_ok, Ok, Err, Result, sym, refl, ap, ◌∙◌, subst, ap₂, arith}
+use Rattle.std.specs.Result.{MatchResult, IsErrAnd}
 use Rattle.fault.specs.declared.refusal.Fault.{Fault}
 use Rattle.fault.specs.declared.cause.Cause.TheVariants.{NotExpected, ChannelFull}
 use Rattle.sink.specs.Meaning.{Meaning, Stocks, fits, take_answer, grown, sink_fault}
 use Rattle.sink.specs.Handing.{moved_by, grown_by, taken_count, hand_answer, all_taken}
 use Rattle.walk.specs.Codes.{Code}
 use Rattle.run.specs.Sinks.{Standing, after_items}
-use Rattle.run.specs.Giving.{stand, placed, GivenEnded, Gives}
+use Rattle.run.specs.Giving.{stand, GivenEnded, Gives}
+
+-- a sink's answer as a run passes it on: a refusal keeps its cause and has the run's place
+abbrev pub placed : ℕ → Result (Unit {0}) Fault → Result (Unit {0}) Fault
+placed place (Ok u) = Ok u
+placed place (Err f) = Err (record { cause = f.cause; place = place })
+
+-- a refusal that is moved to the run's place, and any other answer as it is
+pub placed_mapped : (place : ℕ) (r q : Result (Unit {0}) Fault) (moves : Fault → Fault → Type 0)
+    → ((f g : Fault) → moves f g → g ≡ record { cause = f.cause; place = place })
+    → MatchResult r (λ u. q ≡ Ok u) (λ f. IsErrAnd q (moves f)) → q ≡ placed place r
+placed_mapped place (Ok u) q moves m h = h
+placed_mapped place (Err f) (Ok u) moves m h = absurd h
+placed_mapped place (Err f) (Err g) moves m h = ap (λ (x : Fault). Err x) (m f g h)
 
 module _ (K : Meaning) where
   -- a sink's own fault has the place 0
   own : (e b : Bool) (f : Fault) → ◌≡◌ {A = Result (Unit {0}) Fault} (cond e (cond b (Ok tt) (Err (sink_fault ChannelFull))) (Err (sink_fault NotExpected))) (Err f) → f ≡ sink_fault f.cause
-  own true true f h = let z : ◌≡◌ {A = ℕ} 0 1 = cc in absurd (omega arith)
+  own true true f h = cc
   own true false f h = let z : sink_fault ChannelFull ≡ f = cc in subst (λ (g : Fault). g ≡ sink_fault g.cause) z refl
   own false b f h = let z : sink_fault NotExpected ≡ f = cc in subst (λ (g : Fault). g ≡ sink_fault g.cause) z refl
 

@@ -1,7 +1,6 @@
 -- What walks say at the points of a pattern, which come from some expression.
 use Rattle.std.proofs.Common.{◌≡◌, ℕ, suc, ◌<◌, true, List, [], ◌∷◌, ◌++◌, length, sym, refl, ap, subst, arith}
 use native.Mathlib.Bridge.{le_prop}
-use native.Mathlib.Decide.{dec_lt}
 use mathlib.Core.Logic.{∥∥₁_elim, ∥∥₁_map}
 use mathlib.Core.HLevel.{Π_prop}
 use Rattle.std.proofs.lemmas.Option.{slice_get_past}
@@ -11,15 +10,14 @@ use Rattle.pattern.specs.Expressions.{Expr, size}
 use Rattle.pattern.specs.Points.{points, start, step_at, step_of}
 use Rattle.pattern.specs.Patterns.{points_of, entry_of}
 use Rattle.pattern.specs.declared.pattern.Pattern.{Pattern}
-use Rattle.pattern.specs.declared.step.Step.TheVariants.{Read, End}
 use Rattle.pattern.specs.declared.point.Point.{Point}
 use Rattle.pattern.proofs.Tables.{length_table}
-use Rattle.walk.specs.Graphs.{rests, steps, ClassesBelow}
+use Rattle.walk.specs.Graphs.{graph_of, rests, steps, ClassesBelow}
 use Rattle.walk.specs.Codes.{Code}
 use Rattle.walk.specs.Walks.{Live, NoLive, Accepted}
 use Rattle.walk.proofs.Laying.{To}
 use Rattle.walk.proofs.Routes.{allowed_live, dead_none, live_goes_on, steps_inside, start_inside}
-use Rattle.run.specs.Words.{graph_of, end_of, Known, Lives, Accepts, CodesAs, Hopeless, Hopeful}
+use Rattle.run.specs.Words.{end_of, Known, Lives, Accepts, CodesAs, Hopeless, Hopeful}
 
 -- the expression's number of points
 long : (e : Expr) → length (points e) ≡ size e
@@ -36,14 +34,6 @@ module _ (p : Pattern) where
   entry_inside =
       ∥∥₁_elim p.made le_prop (λ m.
       let i = start_inside m.0 in let k = long m.0 in let a = ap length m.1.points in let e = m.1.entry in omega (arith, i, k, a, e))
-
-  -- a point that reads is one of the pattern's
-  pub reads_here : (q class k : ℕ) → graph_of p q ≡ Read class k → q < end_of p
-  reads_here q class k e =
-      elim (dec_lt q (end_of p)) [
-        | yes l ↦ l
-        | no l ↦ let f : graph_of p q ≡ End = ap step_of (slice_get_past (points_of p) q (omega arith)) in let z : ◌≡◌ {A = ℕ} 0 1 = cc in absurd (omega arith)
-      ]
 
   end_stays : rests (graph_of p (end_of p)) ≡ true
   end_stays = ap (λ o. rests (step_of o)) (slice_get_past (points_of p) (end_of p) (omega arith))

@@ -1,9 +1,10 @@
 -- Stages that stand.
-use Rattle.std.proofs.Common.{◌≡◌, ℕ, ◌<◌, List, [], ◌∷◌, ◌++◌, length, Some, None, Option, sym, refl, ap, ◌∙◌, subst, inl, append_assoc, append-nil, arith, length-append}
+use Rattle.std.proofs.Common.{◌≡◌, ℕ, ◌<◌, List, [], ◌∷◌, ◌++◌, length, Some, None, sym, refl, ap, ◌∙◌, subst, inl, append_assoc, append-nil, arith, length-append}
 use Rattle.fault.specs.declared.refusal.Fault.{Fault}
 use Rattle.alphabet.specs.Meaning.{Meaning}
 use Rattle.pattern.specs.declared.pattern.Pattern.{Pattern}
 use Rattle.pattern.specs.Patterns.{entry_of}
+use Rattle.walk.specs.Graphs.{graph_of}
 use Rattle.walk.specs.Codes.{Code, Begins}
 use Rattle.walk.specs.Walks.{Allowed, NoLive}
 use Rattle.walk.specs.Search.{Reached, In, after}
@@ -12,13 +13,10 @@ use Rattle.walk.proofs.Sharing.{begins_both}
 use Rattle.walk.proofs.Ends.{shared_begins}
 use Rattle.reader.specs.declared.state.Core.{Core}
 use Rattle.reader.specs.Reading.{StateOf as ReadingOf, TooBig}
-use Rattle.run.specs.Words.{graph_of, end_of, Lives, Shares, Accepts, CodesAs, Hopeful}
+use Rattle.run.specs.Words.{end_of, Lives, Shares, Accepts, CodesAs, Hopeful}
 use Rattle.run.specs.Sinks.{Standing}
 use Rattle.run.specs.Stages.{Stands}
 use Rattle.run.proofs.Patterned.{greedy_of}
-
-pub never_none : {X B : Type 0} (o : Option X) (x : X) → o ≡ Some x → o ≡ None → B
-never_none o x p q = let z : ◌≡◌ {A = ℕ} 0 1 = cc in absurd (omega arith)
 
 begins_after : (g s h : Code) → Begins g s → Begins s h → Begins g h
 begins_after g s h a b = (b.0 ++ a.0, a.1 ∙ ap (λ (x : Code). x ++ a.0) b.1 ∙ append_assoc h b.0 a.0)
@@ -80,8 +78,8 @@ module _ {S : Type 0} (L : Meaning S) (p : Pattern) where
     pub stands_failed : (w : List S) (h : Code) (f : Fault) (s : Code) → Shares L p w s → Begins s h → Stands L p (record { read = w; handed = h; fault = Some f; sink = t })
     stands_failed w h f s sh b =
         record {
-          exact = λ n. never_none (Some f) f refl n;
-          hopeful = λ n. never_none (Some f) f refl n;
+          exact = λ n. cc;
+          hopeful = λ n. cc;
           beginning = λ g k. subst (λ (x : Code). Begins x h) (shares_one w s g sh k) b;
           foreseen = foreseen_if w s h sh b;
         }
@@ -90,8 +88,8 @@ module _ {S : Type 0} (L : Meaning S) (p : Pattern) where
     pub stands_nothing : (w : List S) (f : Fault) → Stands L p (record { read = w; handed = []; fault = Some f; sink = t })
     stands_nothing w f =
         record {
-          exact = λ n. never_none (Some f) f refl n;
-          hopeful = λ n. never_none (Some f) f refl n;
+          exact = λ n. cc;
+          hopeful = λ n. cc;
           beginning = λ s k. (s, refl);
           foreseen = λ u a. let g = greedy_of p L (w ++ u) a in (g.0, g.1, (g.0, refl));
         }

@@ -10,15 +10,16 @@ use Rattle.reader.specs.declared.state.Core.{Core}
 use Rattle.reader.specs.declared.stop.Stop.{Stop}
 use Rattle.reader.specs.declared.stop.Stop.TheVariants.{Dead, TreeFull}
 use Rattle.reader.specs.Reading.{StateOf as ReadingOf, Advances}
+use Rattle.reader.specs.Causes.{cause_of}
 use Rattle.run.specs.Limits.{length_limit}
 use Rattle.run.specs.Words.{Hopeful}
 use Rattle.run.specs.Sinks.{Standing}
 use Rattle.std.specs.Result.{result_err}
 use Rattle.run.specs.Giving.{Gives}
 use Rattle.run.specs.Stages.{Stage, Due, Readable, FedOpen, fault_at, told}
-use Rattle.run.specs.Inner.{Inner, StateOf, Leads, FeedsOpen, cause_of}
+use Rattle.run.specs.Inner.{Inner, StateOf, Leads, FeedsOpen}
 use Rattle.run.proofs.Patterned.{hopeless, hopeful}
-use Rattle.run.proofs.Standings.{never_none, live_of, live_big, stands_open, stands_failed}
+use Rattle.run.proofs.Standings.{live_of, live_big, stands_open, stands_failed}
 
 -- what an alphabet's law says of its classes
 abbrev pub Inhabited : {S : Type 0} → Meaning S → Type 0
@@ -52,9 +53,9 @@ module _ {S : Type 0} (L : Meaning S) (p : Pattern) (K : SinkMeaning) where
               count = dr ∙ st.count;
               total = dh ∙ st.total;
               fault_is = df;
-              known = λ q. never_none (Some f) f refl q;
-              going = λ q. never_none (Some f) f refl q;
-              reading = λ q. never_none (Some f) f refl q;
+              known = λ q. cc;
+              going = λ q. cc;
+              reading = λ q. cc;
               stands = stands_failed L p a.sink a.read a.handed f a.handed sh ([], sym (append-nil a.handed));
             },
             e,
@@ -172,9 +173,9 @@ module _ {S : Type 0} (L : Meaning S) (p : Pattern) (K : SinkMeaning) where
                 count = omega (arith, k, q, dr);
                 total = omega (arith, j, v, dh, G.counted);
                 fault_is = df;
-                known = λ y. never_none (Some f) f refl y;
-                going = λ y. never_none (Some f) f refl y;
-                reading = λ y. never_none (Some f) f refl y;
+                known = λ y. cc;
+                going = λ y. cc;
+                reading = λ y. cc;
                 stands = stands_failed L p t w (a.handed ++ G.done) f (a.handed ++ xs) R.shared (Z.item ∷ Z.rest, cut);
               },
               refl,

@@ -9,11 +9,6 @@ use Rattle.run.specs.Sinks.{Standing, after_items, Takes, Stopped}
 abbrev pub stand : {P : Type 0} → P → Stocks → Standing P
 stand p s = record { position = p; stocks = s }
 
--- a sink's answer as a run passes it on: a refusal keeps its cause and has the run's place
-abbrev pub placed : ℕ → Result (Unit {0}) Fault → Result (Unit {0}) Fault
-placed place (Ok u) = Ok u
-placed place (Err f) = Err (record { cause = f.cause; place = place })
-
 module _ (K : Meaning) where
   -- how handing over the items xs ended, of which `done` were taken: all were, or the sink refused one
   abbrev pub GivenEnded : Standing K.Position → Code → Code → ℕ → Result (Unit {0}) Fault → Type 0

@@ -1,25 +1,20 @@
 -- When what a run holds is the state of a stage, and what each call makes of it. L is what the alphabet means, p the pattern, K what the sink means.
 -- The theorem on runs does not mention any of this. Assumes nothing.
-use Rattle.std.specs.Prelude.{◌≡◌, ℕ, ◌+◌, ◌<◌, ◌≤◌, Bool, true, false, ◌↔◌, List, length, Some, None, Ok, Err, Option, Result, slice_index_or}
+use Rattle.std.specs.Prelude.{◌≡◌, ℕ, Bool, true, false, ◌↔◌, List, length, Some, None, Option, Result, slice_index_or}
 use Rattle.fault.specs.declared.refusal.Fault.{Fault}
-use Rattle.fault.specs.declared.cause.Cause.{Cause}
-use Rattle.fault.specs.declared.cause.Cause.TheVariants as cause
 use Rattle.alphabet.specs.Meaning.{Meaning}
-use Rattle.pattern.specs.Limits.{largest_number}
 use Rattle.pattern.specs.declared.pattern.Pattern.{Pattern}
-use Rattle.pattern.specs.declared.step.Step.TheVariants.{Read}
 use Rattle.point_set.specs.Flags.{tally}
 use Rattle.point_set.specs.Members.{point_count}
 use Rattle.sink.specs.Meaning.{Meaning as SinkMeaning}
 use Rattle.walk.specs.Codes.{Code}
 use Rattle.reader.specs.declared.state.Core.{Core}
 use Rattle.reader.specs.declared.stop.Stop.{Stop}
-use Rattle.reader.specs.declared.stop.Stop.TheVariants as stop
 use Rattle.reader.specs.Reading.{StateOf as ReadingOf}
 use Rattle.reader.specs.Seen.{Seen, every}
 use Rattle.run.specs.declared.finished.Finished.{Finished}
 use Rattle.run.specs.declared.book.Book.{Book}
-use Rattle.run.specs.Words.{graph_of, Known, Lives}
+use Rattle.run.specs.Words.{Known, Lives}
 use Rattle.run.specs.Sinks.{Standing}
 use Rattle.run.specs.Stages.{Stage, Stands, FedOpen, Fed, Opened, Closed}
 
@@ -33,16 +28,6 @@ pub record Inner : Type 0 where
 
 abbrev pub inner : Core → Option Stop → Book → Inner
 inner c s b = record { core = c; stop = s; read = b.read; handed = b.handed; fault = b.fault }
-
--- the cause for which a run refuses a symbol that its reader refuses
-abbrev pub cause_of : Stop → Cause
-cause_of stop.Dead = cause.DeadSymbol
-cause_of stop.TreeFull = cause.TreeFull
-
--- whether a reader's answer at its end is that what was read is accepted
-abbrev pub accepted_in : Result Bool Stop → Bool
-accepted_in (Ok b) = b
-accepted_in (Err f) = false
 
 -- the book with another fault
 pub record Noted (b b' : Book) (f : Fault) : Type 0 where
@@ -104,11 +89,3 @@ module _ {S : Type 0} (L : Meaning S) (p : Pattern) where
 -- what a run holds is the state of some stage, by what was said of the symbols read
 abbrev pub Held : Pattern → Inner → Type 0
 Held p c = (a : Stage Seen (Unit {0})) × StateOf every p c a
-
--- a class that the point q reads is below the count, and one that a pattern file can name
-abbrev pub ReadsBelow : ℕ → Pattern → ℕ → Type 0
-ReadsBelow count p q = (class k : ℕ) → graph_of p q ≡ Read class k → (class < count) × (class < largest_number + 1)
-
--- some point reads a class at or above the count
-abbrev pub Beyond : ℕ → Pattern → Type 0
-Beyond count p = (q class k : ℕ) × (graph_of p q ≡ Read class k) × (count ≤ class)

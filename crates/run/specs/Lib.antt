@@ -5,4 +5,6 @@ pub mod Stages
 pub mod Performed
 pub mod Giving
 pub mod Inner
+pub mod State
+pub mod Run
 pub mod Calls

@@ -1,6 +1,7 @@
 -- A sink as a run finds it: where it stands, and what taking items in turn makes of it. K is what the sink means. Assumes nothing.
 use Rattle.std.specs.Prelude.{◌≡◌, ℕ, true, ◌∷◌, ◌++◌, Err}
 use Rattle.fault.specs.declared.refusal.Fault.{Fault}
+use Rattle.sink.specs.declared.Sink.{Ghosts}
 use Rattle.sink.specs.Meaning.{Meaning, Stocks, take_answer, sink_fault}
 use Rattle.sink.specs.Handing.{moved_by, grown_by, all_taken}
 use Rattle.walk.specs.Codes.{Code}
@@ -9,6 +10,10 @@ use Rattle.walk.specs.Codes.{Code}
 pub record Standing (P : Type 0) : Type 0 where
   pub position : P
   pub stocks : Stocks
+
+-- where a sink stands, by what its kind means
+abbrev pub standing : {T : Type 0} (kind : Ghosts T) → T → Standing kind.meaning.Position
+standing kind sink = record { position = kind.position sink; stocks = kind.stock sink }
 
 module _ (K : Meaning) where
   -- where it stands when it has taken the items in turn

@@ -1,19 +1,12 @@
 -- The words of walks, at the points of a pattern: from its entry, and to its end point. L is what the alphabet means. Assumes nothing.
-use Rattle.std.specs.Prelude.{◌≡◌, ℕ, ◌≤◌, List, ◌++◌, length}
+use Rattle.std.specs.Prelude.{ℕ, List, ◌++◌, length}
 use Rattle.alphabet.specs.Meaning.{Meaning}
 use Rattle.pattern.specs.declared.pattern.Pattern.{Pattern}
-use Rattle.pattern.specs.declared.step.Step.{Step}
-use Rattle.pattern.specs.declared.step.Step.TheVariants.{Read}
-use Rattle.pattern.specs.Points.{step_at}
 use Rattle.pattern.specs.Patterns.{points_of, entry_of}
 use Rattle.walk.specs.Codes.{Code}
-use Rattle.walk.specs.Graphs.{ClassesBelow}
+use Rattle.walk.specs.Graphs.{graph_of, ClassesBelow, LacksClass}
 use Rattle.walk.specs.Walks.{Live, Shared, Accepted, Greedy, Dead}
 use Rattle.walk.specs.Tree.{Counts}
-
--- what a walk may do at each point of the pattern
-abbrev pub graph_of : Pattern → ℕ → Step
-graph_of p = step_at (points_of p)
 
 -- the number of its end point
 abbrev pub end_of : Pattern → ℕ
@@ -26,7 +19,7 @@ module _ {S : Type 0} (L : Meaning S) (p : Pattern) where
 
   -- some point of the pattern reads a class that the alphabet does not have
   abbrev pub Unknown : Type 0
-  Unknown = (q class k : ℕ) × (graph_of p q ≡ Read class k) × (L.classes ≤ class)
+  Unknown = LacksClass L.classes (graph_of p)
 
   -- the live walk over w that ends on the point q has the code c
   abbrev pub Lives : List S → ℕ → Code → Type 0

@@ -1,7 +1,7 @@
 // Any list of calls on a run, and the theorem on runs.
 ghost use Rattle.std.specs.Prelude.{◌≡◌, ℕ, List};
-ghost use Rattle.run.specs.Giving.{stand};
-ghost use Rattle.run.specs.Inner.{inner};
+ghost use Rattle.run.specs.Sinks.{standing};
+ghost use Rattle.run.specs.Run.{pattern_of, alphabet_of, meaning_of, held_by};
 ghost use Rattle.run.specs.Calls.{Makes, MakesAll};
 ghost use Rattle.run.specs.Performed.{Reads};
 
@@ -20,9 +20,9 @@ fn make<A: Alphabet, K: Sink>(
     call: &Call<'_, A::Symbol>,
     buffer: &mut [u8],
 ) -> Answer
-    ensures pattern { run.new.state.reader.pattern.now ≡ run.old.state.reader.pattern.now }
-    ensures alphabet { run.new.state.reader.alphabet.now ≡ run.old.state.reader.alphabet.now }
-    ensures makes { Makes (A.Alphabet.meaning run.old.state.reader.alphabet.now) run.old.state.reader.pattern.now K.Sink.meaning call.now buffer.old (inner run.old.state.reader.core run.old.state.reader.stop run.old.state.book) (stand (K.Sink.position sink.old) (K.Sink.stock sink.old)) result (inner run.new.state.reader.core run.new.state.reader.stop run.new.state.book) (stand (K.Sink.position sink.new) (K.Sink.stock sink.new)) buffer.new }
+    ensures pattern { pattern_of run.new ≡ pattern_of run.old }
+    ensures alphabet { alphabet_of run.new ≡ alphabet_of run.old }
+    ensures makes { Makes (meaning_of run.old) (pattern_of run.old) K.Sink.meaning call.now buffer.old (held_by run.old) (standing K.Sink sink.old) result (held_by run.new) (standing K.Sink sink.new) buffer.new }
 {
     match call {
         Call::Feed(piece) => Answer::Fed(run.feed(sink, piece)),
@@ -31,6 +31,7 @@ fn make<A: Alphabet, K: Sink>(
 }
 
 // Makes the calls one after another. The answers stand in the log, as far as it reaches.
+// The calls, the log and the buffer stay apart, as `perform` takes them: a struct of the three would be made here and taken apart in the loop.
 fn make_all<A: Alphabet, K: Sink>(
     run: &mut Run<'_, A>,
     sink: &mut K,
@@ -38,12 +39,13 @@ fn make_all<A: Alphabet, K: Sink>(
     log: &mut [Answer],
     buffer: &mut [u8],
 )
-    ensures pattern { run.new.state.reader.pattern.now ≡ run.old.state.reader.pattern.now }
-    ensures alphabet { run.new.state.reader.alphabet.now ≡ run.old.state.reader.alphabet.now }
-    ensures makes { MakesAll (A.Alphabet.meaning run.old.state.reader.alphabet.now) run.old.state.reader.pattern.now K.Sink.meaning calls.now log.old buffer.old (inner run.old.state.reader.core run.old.state.reader.stop run.old.state.book) (stand (K.Sink.position sink.old) (K.Sink.stock sink.old)) (inner run.new.state.reader.core run.new.state.reader.stop run.new.state.book) (stand (K.Sink.position sink.new) (K.Sink.stock sink.new)) log.new buffer.new }
+    ensures pattern { pattern_of run.new ≡ pattern_of run.old }
+    ensures alphabet { alphabet_of run.new ≡ alphabet_of run.old }
+    ensures makes { MakesAll (meaning_of run.old) (pattern_of run.old) K.Sink.meaning calls.now log.old buffer.old (held_by run.old) (standing K.Sink sink.old) (held_by run.new) (standing K.Sink sink.new) log.new buffer.new }
 {
     for (i, call) in calls.iter().enumerate() {
         let answer = make(run, sink, call, buffer);
+        // By an index: after a write through `log.get_mut(i)` or `log.iter_mut()` a proof knows the log's length, but no answer.
         if i < log.len() {
             log[i] = answer;
         }
@@ -61,7 +63,7 @@ pub fn perform<'p, A: Alphabet, K: Sink>(
     buffer: &mut [u8],
     finish: bool,
 ) -> (u64, Option<Result<Finished, Fault>>)
-    ensures { Reads (A.Alphabet.meaning alphabet.now) pattern.now K.Sink.meaning (stand (K.Sink.position sink.old) (K.Sink.stock sink.old)) calls.now log.old buffer.old finish result.0 result.1 (stand (K.Sink.position sink.new) (K.Sink.stock sink.new)) log.new buffer.new }
+    ensures { Reads (A.Alphabet.meaning alphabet.now) pattern.now K.Sink.meaning (standing K.Sink sink.old) calls.now log.old buffer.old finish result.0 result.1 (standing K.Sink sink.new) log.new buffer.new }
 {
     let (mut run, opened) = Run::open(pattern, alphabet, sink);
     make_all(&mut run, sink, calls, log, buffer);

@@ -7,7 +7,7 @@ returns-then-finish g c =
     let K = g.K.Sink.meaning in
     let L = g.A.Alphabet.meaning c.args.alphabet.now in
     let q = c.args.pattern.now in
-    let o = c.open-opened.ensures in
+    let o = c.open-run.ensures in
     let m = c.make_all.ensures in
     reads_all L q K _ _ _ _ _ _ _ _ _ _ _ _ _ _ o.opens (all_as K (ap g.A.Alphabet.meaning o.alphabet) o.pattern _ _ _ _ _ _ _ _ _ m.makes)
     (ends_closed L q K _ _ _ _ _ c.if-finish.true (closes_as K (ap g.A.Alphabet.meaning (m.alphabet ∙ o.alphabet)) (m.pattern ∙ o.pattern) _ _ _ _ c.finish.ensures.closes))
@@ -17,7 +17,7 @@ returns-else-finish g c =
     let K = g.K.Sink.meaning in
     let L = g.A.Alphabet.meaning c.args.alphabet.now in
     let q = c.args.pattern.now in
-    let o = c.open-opened.ensures in
+    let o = c.open-run.ensures in
     let m = c.make_all.ensures in
     reads_all L q K _ _ _ _ _ _ _ _ _ _ _ _ _ _ o.opens (all_as K (ap g.A.Alphabet.meaning o.alphabet) o.pattern _ _ _ _ _ _ _ _ _ m.makes)
     (ends_open L q K _ _ _ c.if-finish.false)

@@ -16,9 +16,9 @@ loop-symbol-init g c = let K = g.K.Sink.meaning in (refl, refl, c.in_default.is,
 pub returns-in_err-step : goal.returns-in_err-step
 returns-in_err-step g c =
     let K = g.K.Sink.meaning in
-    let a = c.args.self.now.reader.alphabet.now in
+    let a = c.args.self.now.reader.grammar.alphabet.now in
     let L = g.A.Alphabet.meaning a in
-    let q = c.args.self.now.reader.pattern.now in
+    let q = c.args.self.now.reader.grammar.pattern.now in
     let v = c.loop-symbol.invariant in
     let p = err_from_is_err_and c.from_residual.result c.from_residual.ensures.1 in
     let ef = told_back _ _ tt (sym c.in_err-step.was ∙ c.step.ensures.answer) in
@@ -41,9 +41,9 @@ returns-in_err-step g c =
 pub loop-symbol-preserved : goal.loop-symbol-preserved
 loop-symbol-preserved g c =
     let K = g.K.Sink.meaning in
-    let a = c.args.self.now.reader.alphabet.now in
+    let a = c.args.self.now.reader.grammar.alphabet.now in
     let L = g.A.Alphabet.meaning a in
-    let q = c.args.self.now.reader.pattern.now in
+    let q = c.args.self.now.reader.grammar.pattern.now in
     let v = c.loop-symbol.invariant in
     let dn = told_none _ _ tt (sym c.in_ok-step.was ∙ c.step.ensures.answer) in
     let me = ap g.A.Alphabet.meaning v.1 in (
@@ -58,9 +58,9 @@ loop-symbol-preserved g c =
 pub returns : goal.returns
 returns g c =
     let K = g.K.Sink.meaning in
-    let a = c.args.self.now.reader.alphabet.now in
+    let a = c.args.self.now.reader.grammar.alphabet.now in
     let L = g.A.Alphabet.meaning a in
-    let q = c.args.self.now.reader.pattern.now in
+    let q = c.args.self.now.reader.grammar.pattern.now in
     let v = c.loop-symbol.invariant in
     let all = take_all c.loop-symbol.symbol-index c.args.piece.now c.loop-symbol-test.false in
     record {

@@ -1,20 +1,20 @@
 use Rattle.std.proofs.Common.{◌≡◌, ◌≤◌, map, take, None}
 use Rattle.reader.specs.Seen.{see, every}
-use Rattle.run.specs.Giving.{stand}
-use Rattle.run.specs.Inner.{inner, FeedsOpen}
+use Rattle.run.specs.Sinks.{standing}
+use Rattle.run.specs.State.{state_pattern, state_alphabet, state_meaning, state_held}
+use Rattle.run.specs.Inner.{FeedsOpen}
 use Rattle.run.proofs.state.State.feed.Given as goal
 
 -- the part of the piece so far was fed
 abbrev pub invariant-loop-symbol : goal.invariant-loop-symbol
 invariant-loop-symbol g l =
-    (l.self.reader.pattern.now ≡ l.initial.self.reader.pattern.now)
-    × (l.self.reader.alphabet.now ≡ l.initial.self.reader.alphabet.now)
+    let first = l.initial.self in
+    let fed = take l.symbol-index l.piece in
+    (state_pattern l.self ≡ state_pattern first)
+    × (state_alphabet l.self ≡ state_alphabet first)
     × (l.self.book.fault ≡ None)
-    × (l.initial.self.book.handed ≤ l.self.book.handed)
-    × FeedsOpen (g.A.Alphabet.meaning l.initial.self.reader.alphabet.now) l.initial.self.reader.pattern.now g.K.Sink.meaning (take l.symbol-index l.piece)
-    (inner l.initial.self.reader.core l.initial.self.reader.stop l.initial.self.book) (stand (g.K.Sink.position l.initial.sink) (g.K.Sink.stock l.initial.sink))
-    (inner l.self.reader.core l.self.reader.stop l.self.book) (stand (g.K.Sink.position l.sink) (g.K.Sink.stock l.sink))
-    × FeedsOpen every l.initial.self.reader.pattern.now g.K.Sink.meaning
-    (map (see (g.A.Alphabet.meaning l.initial.self.reader.alphabet.now)) (take l.symbol-index l.piece))
-    (inner l.initial.self.reader.core l.initial.self.reader.stop l.initial.self.book) (stand (g.K.Sink.position l.initial.sink) (g.K.Sink.stock l.initial.sink))
-    (inner l.self.reader.core l.self.reader.stop l.self.book) (stand (g.K.Sink.position l.sink) (g.K.Sink.stock l.sink))
+    × (first.book.handed ≤ l.self.book.handed)
+    × FeedsOpen (state_meaning first) (state_pattern first) g.K.Sink.meaning fed
+    (state_held first) (standing g.K.Sink l.initial.sink) (state_held l.self) (standing g.K.Sink l.sink)
+    × FeedsOpen every (state_pattern first) g.K.Sink.meaning (map (see (state_meaning first)) fed)
+    (state_held first) (standing g.K.Sink l.initial.sink) (state_held l.self) (standing g.K.Sink l.sink)

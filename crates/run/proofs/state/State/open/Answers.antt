@@ -1,33 +1,33 @@
-use Rattle.std.proofs.Common.{refl}
+use Rattle.std.proofs.Common.{Some, refl, ap}
 use Rattle.reader.specs.Seen.{every}
-use Rattle.run.proofs.Ends.{state_refused, open_refused, open_given, known_at, unknown_at}
+use Rattle.run.proofs.Ends.{state_refused, open_refused, open_given}
 use Rattle.run.proofs.Kept.{nowhere, every_inhabited, held_led}
 use Rattle.run.proofs.Handing.{gives_as}
 use Rattle.run.proofs.state.State.open.Goals as goal
 
-pub returns-then-not-known : goal.returns-then-not-known
-returns-then-not-known g c =
-    let L = g.A.Alphabet.meaning c.args.alphabet.now in
+pub returns-then-not-knows_classes : goal.returns-then-not-knows_classes
+returns-then-not-knows_classes g c =
+    let L = g.A.Alphabet.meaning c.args.grammar.alphabet.now in
     record {
       pattern = c.open-reader.ensures.pattern;
       alphabet = c.open-reader.ensures.alphabet;
-      opens = open_refused L c.args.pattern.now g.K.Sink.meaning _ _ (unknown_at L c.args.pattern.now _ c.class_count-count.ensures (c.known.ensures.beyond c.if-not-known.true)) refl refl refl;
-      held = (_, state_refused every c.args.pattern.now nowhere _ refl refl refl);
+      opens = open_refused L c.args.grammar.pattern.now g.K.Sink.meaning _ _ (c.knows_classes.ensures.unknown c.if-not-knows_classes.true) refl refl (ap Some c.new.ensures);
+      held = (_, state_refused every c.args.grammar.pattern.now nowhere _ refl refl (ap Some c.new.ensures));
     }
 
 pub returns : goal.returns
 returns g c =
-    let L = g.A.Alphabet.meaning c.args.alphabet.now in
+    let L = g.A.Alphabet.meaning c.args.grammar.alphabet.now in
     let K = g.K.Sink.meaning in
-    let G = gives_as K _ _ _ _ _ _ _ c.items.ensures c.give-given.ensures in
+    let G = gives_as K _ _ _ _ _ _ _ c.items.ensures.value c.give-given.ensures in
     record {
       pattern = c.open-reader.ensures.pattern;
       alphabet = c.open-reader.ensures.alphabet;
       opens =
-          open_given L c.args.pattern.now K (g.met.A.Alphabet.lawful c.args.alphabet.now).inhabited _ _ _ _ _ _ (known_at L c.args.pattern.now _ c.class_count-count.ensures (c.known.ensures.below c.if-not-known.false))
+          open_given L c.args.grammar.pattern.now K (g.met.A.Alphabet.lawful c.args.grammar.alphabet.now).inhabited _ _ _ _ _ _ (c.knows_classes.ensures.known c.if-not-knows_classes.false)
           c.open-reader.ensures.starts c.open-reader.ensures.fresh refl refl c.err.ensures.value G;
       held =
-          held_led c.args.pattern.now K _ _ _
-          (open_given every c.args.pattern.now K every_inhabited _ _ _ _ _ _ (c.known.ensures.small c.if-not-known.false)
+          held_led c.args.grammar.pattern.now K _ _ _
+          (open_given every c.args.grammar.pattern.now K every_inhabited _ _ _ _ _ _ (c.knows_classes.ensures.numbered c.if-not-knows_classes.false)
           c.open-reader.ensures.seen c.open-reader.ensures.fresh refl refl c.err.ensures.value G);
     }

@@ -9,7 +9,7 @@ use Rattle.run.proofs.state.State.step.Goals as goal
 pub returns-then-full : goal.returns-then-full
 returns-then-full g c =
     let K = g.K.Sink.meaning in
-    let L = g.A.Alphabet.meaning c.args.self.now.reader.alphabet.now in
+    let L = g.A.Alphabet.meaning c.args.self.now.reader.grammar.alphabet.now in
     let n = c.refuse.ensures.noted in
     record {
       pattern = refl;
@@ -23,10 +23,10 @@ returns-then-full g c =
 pub returns-in-Err : goal.returns-in-Err
 returns-in-Err g c =
     let K = g.K.Sink.meaning in
-    let a = c.args.self.now.reader.alphabet.now in
+    let a = c.args.self.now.reader.grammar.alphabet.now in
     let L = g.A.Alphabet.meaning a in
     let n = c.refuse-in-Err.ensures.noted in
-    let f = n.fault ∙ ap (λ k. Some (fault_at k c.args.self.now.book.read)) c.cause_of.ensures in
+    let f = n.fault ∙ ap (λ k. Some (fault_at k c.args.self.now.book.read)) c.into.ensures in
     let few = c.full.ensures.below c.if-full.false in
     record {
       pattern = c.read.ensures.pattern;
@@ -40,9 +40,9 @@ returns-in-Err g c =
 pub returns : goal.returns
 returns g c =
     let K = g.K.Sink.meaning in
-    let a = c.args.self.now.reader.alphabet.now in
+    let a = c.args.self.now.reader.grammar.alphabet.now in
     let L = g.A.Alphabet.meaning a in
-    let G = gives_as K _ _ _ _ _ _ _ c.items.ensures c.give-given.ensures in
+    let G = gives_as K _ _ _ _ _ _ _ c.items.ensures.value c.give-given.ensures in
     let few = c.full.ensures.below c.if-full.false in
     let b = c.count.ensures in
     record {
