@@ -1,62 +1,36 @@
 // Filed bits read again.
-use crate::command::Outcome;
-use crate::items::{BITS, TEXT, manner_of, print_bytes};
-use crate::reading::{Poured, deliver, pour_both};
+use crate::command::load;
+use crate::delivering::{deliver_rows, print_bits};
 use alphabet::Bytes;
 use anyhow::anyhow;
-use pattern::Pattern;
+use console::{Failure, Poured, bits_and_text, told};
 use replay::replay;
-use sink::{Bits, Pair};
 use std::fs;
-use text::{Manner, Text};
+use std::rt::Files;
+use text::Manner;
 
 const USAGE: &str = "usage: mulzopas replay PATTERN plain|numbered BITS INPUT ROWS";
 
-// Replays the bits over the input into fresh bits and text, and tells how many items, symbols and bytes of rows came of it.
-fn again(
-    rt: &HostRuntime,
-    pattern: &Pattern,
-    manner: Manner,
-    filed: &[u8],
-    input: &[u8],
-    poured: &mut Poured,
-) -> anyhow::Result<Outcome> {
-    let mut pair = Pair {
-        first: Bits::new(),
-        second: Text::new(pattern, manner),
-    };
-    let answer = replay(pattern, &Bytes, filed, input, &mut pair);
-    pour_both(&mut pair, poured)?;
-    match answer {
-        Ok(items) => {
-            let (symbols, bytes) = (input.len(), poured.rows.len());
-            println!(rt; "replayed {items} items, {symbols} symbols: {bytes} bytes of rows")?;
-            Ok(Outcome::Done)
-        }
-        Err(fault) => {
-            println!(rt; "{fault}")?;
-            Ok(Outcome::Refused)
-        }
-    }
-}
-
 // The command: a pattern file, a manner, a file of bits, a file of symbols, and where the rows go (- prints them).
-pub(crate) fn run(rt: &HostRuntime, words: &[String]) -> anyhow::Result<Outcome> {
+pub(crate) fn run<R: Files + Print + AllocGlobal>(rt: &R, words: &[String]) -> Result<(), Failure> {
     let [name, manner, bits, input, rows] = words else {
-        return Err(anyhow!("{USAGE}"));
+        return Err(anyhow!("{USAGE}").into());
     };
-    let manner = manner_of(manner.as_str())?;
-    let file = fs::read(rt, name.as_str())?;
-    let mut pattern = Pattern::new();
-    if let Err(fault) = pattern.load(&file) {
-        println!(rt; "{fault}")?;
-        return Ok(Outcome::Refused);
-    }
+    let manner = manner.as_str().parse::<Manner>()?;
+    let pattern = load(rt, name.as_str())?;
     let filed = fs::read(rt, bits.as_str())?;
     let symbols = fs::read(rt, input.as_str())?;
-    let mut poured = Poured::new(rt.alloc());
-    let outcome = again(rt, &pattern, manner, &filed, &symbols, &mut poured)?;
-    print_bytes(rt, BITS, &poured.bits)?;
-    deliver(rt, rows.as_str(), TEXT, &poured.rows)?;
-    Ok(outcome)
+    let mut poured = Poured::new(rt.alloc())?;
+    let mut pair = bits_and_text(&pattern, manner);
+    let answer = replay(&pattern, &Bytes, &filed, &symbols, &mut pair);
+    poured.pour(&mut pair)?;
+    let done = told(rt, answer);
+    if let Ok(items) = &done {
+        let (symbols, bytes) = (symbols.len(), poured.text.len());
+        println!(rt; "replayed {items} items, {symbols} symbols: {bytes} bytes of rows")?;
+    }
+    print_bits(rt, &poured.bits)?;
+    deliver_rows(rt, rows.as_str(), &poured.text)?;
+    done?;
+    Ok(())
 }

@@ -1,31 +1,36 @@
 // The commands of the program.
-use crate::{again, items, reading, show};
+use crate::{again, reading};
 use anyhow::anyhow;
+use console::{Failure, hand_items, pattern_of, show_files, told};
+use pattern::Pattern;
+use std::fs;
+use std::rt::Files;
 
 const USAGE: &str =
     "usage: mulzopas show FILE.. | items PATTERN plain|numbered ITEM.. | replay PATTERN plain|numbered BITS INPUT ROWS | read PATTERN plain|numbered INPUT ROWS BITS | batch FILE";
 
-// What came of a command: it was done, or the library refused, which was told on a line.
-#[derive(Clone, Copy)]
-pub(crate) enum Outcome {
-    Done,
-    Refused,
+// Tells how the program is called, on standard error: an error's own text has room for 120 bytes.
+fn wrong_words(rt: &impl Eprint) -> Result<(), Failure> {
+    eprintln!(rt; "{USAGE}")?;
+    Err(anyhow!("the words are wrong").into())
 }
 
-// Tells how the program is called, on standard error: an error's own text has room for 120 bytes.
-fn wrong_words(rt: &HostRuntime) -> anyhow::Result<Outcome> {
-    eprintln!(rt; "{USAGE}")?;
-    Err(anyhow!("the words are wrong"))
+// The pattern of the file of this name. Its refusal is told.
+pub(crate) fn load<R: Files + Print + AllocGlobal>(rt: &R, name: &str) -> Result<Pattern, Failure> {
+    told(rt, pattern_of(&fs::read(rt, name)?))
 }
 
 // Performs one command, given by its words.
-pub(crate) fn perform(rt: &HostRuntime, words: &[String]) -> anyhow::Result<Outcome> {
+pub(crate) fn perform<R: Files + Input + Print + Eprint + AllocGlobal>(
+    rt: &R,
+    words: &[String],
+) -> Result<(), Failure> {
     let [name, rest @ ..] = words else {
         return wrong_words(rt);
     };
     match name.as_str() {
-        "show" => show::files(rt, rest),
-        "items" => items::run(rt, rest),
+        "show" => show_files(rt, rest),
+        "items" => hand_items(rt, "mulzopas", rest, |name| load(rt, name)),
         "replay" => again::run(rt, rest),
         "read" => reading::run(rt, rest),
         _ => wrong_words(rt),

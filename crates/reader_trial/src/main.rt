@@ -4,12 +4,16 @@
 #![tactic(auto)]
 
 use alphabet::Bytes;
-use anyhow::anyhow;
+use anyhow::Context;
+use console::pattern_of;
 use pattern::Pattern;
 use reader::{Buffer, Reader, Stop};
+use std::alloc::Global;
+use std::io;
+use tables::{hex_bytes, word_bytes};
 
 // The items that came off, if any.
-fn show(rt: &HostRuntime, after: usize, out: &Buffer) -> anyhow::Result<()> {
+fn show(rt: &impl Print, after: usize, out: &Buffer) -> io::Result<()> {
     if out.items().is_empty() {
         return Ok(());
     }
@@ -17,76 +21,51 @@ fn show(rt: &HostRuntime, after: usize, out: &Buffer) -> anyhow::Result<()> {
     for item in out.items() {
         print!(rt; " {item}")?;
     }
-    println!(rt; "")?;
-    Ok(())
+    println!(rt; "")
 }
 
 // The bytes of the words of an input.
-fn input_of(rt: &HostRuntime, words: &str) -> anyhow::Result<Vec<u8>> {
-    let mut bytes = Vec::new(rt.alloc());
+fn input_of(heap: Global, words: &str) -> anyhow::Result<Vec<u8>> {
+    let mut bytes = Vec::new(heap);
     for word in words.split_whitespace() {
-        let (times, text) = match word.split_once("*") {
-            Some((count, text)) => (count.parse::<usize>()?, text),
-            None => (1, word),
-        };
-        for _ in 0..times {
-            for byte in text.as_bytes() {
-                bytes.push(*byte)?;
-            }
-        }
+        bytes.extend_from_slice(&word_bytes(heap, word)?)?;
     }
     Ok(bytes)
 }
 
 // Reads an input to its end or to a refused symbol.
-fn read(rt: &HostRuntime, pattern: &Pattern, input: &[u8]) -> anyhow::Result<()> {
+fn read(rt: &impl Print, pattern: &Pattern, input: &[u8]) -> io::Result<()> {
     let mut out = Buffer::new();
     let mut reader = Reader::open(pattern, &Bytes, &mut out);
     show(rt, 0, &out)?;
-    let mut after: usize = 0;
-    for symbol in input {
+    for (before, symbol) in input.iter().enumerate() {
         match reader.read(symbol, &mut out) {
-            Ok(()) => (),
-            Err(Stop::Dead) => {
-                println!(rt; "  dead after {after}")?;
-                return Ok(());
-            }
-            Err(Stop::TreeFull) => {
-                println!(rt; "  tree full after {after}")?;
-                return Ok(());
-            }
+            Ok(()) => show(rt, before + 1, &out)?,
+            Err(Stop::Dead) => return println!(rt; "  dead after {before}"),
+            Err(Stop::TreeFull) => return println!(rt; "  tree full after {before}"),
         }
-        after = after.saturating_add(1);
-        show(rt, after, &out)?;
     }
     let live = reader.live_points().count();
     println!(rt; "  {live} live walks")?;
     if reader.live_points().contains(pattern.count()) {
-        println!(rt; "  accepted so far")?;
+        println!(rt; "  accepted so far")
     } else {
-        println!(rt; "  not accepted so far")?;
+        println!(rt; "  not accepted so far")
+    }
+}
+
+fn case<R: Print + AllocGlobal>(rt: &R, line: &str) -> anyhow::Result<()> {
+    let heap = rt.alloc();
+    let (digits, words) = line.split_once("=").context("a line without =")?;
+    match pattern_of(&hex_bytes(heap, digits)?) {
+        Ok(pattern) => read(rt, &pattern, &input_of(heap, words)?)?,
+        Err(fault) => println!(rt; "  refused: {fault}")?,
     }
     Ok(())
 }
 
-fn case(rt: &HostRuntime, line: &str) -> anyhow::Result<()> {
-    let Some((digits, words)) = line.split_once("=") else {
-        return Err(anyhow!("a line without ="));
-    };
-    let mut file = Vec::new(rt.alloc());
-    for word in digits.split_whitespace() {
-        file.push(u8::from_str_radix(word, 16)?)?;
-    }
-    let mut pattern = Pattern::new();
-    if let Err(fault) = pattern.load(&file) {
-        println!(rt; "  refused: {fault}")?;
-        return Ok(());
-    }
-    let input = input_of(rt, words)?;
-    read(rt, &pattern, &input)
-}
-
-fn run(rt: &HostRuntime) -> anyhow::Result<()> {
+// Unlike the other trials, it prints no remarks.
+fn run<R: Input + Print + AllocGlobal>(rt: &R) -> anyhow::Result<()> {
     for line in rt.lines(rt.alloc()) {
         let line = line?;
         if line.as_str().starts_with("#") || line.is_empty() {

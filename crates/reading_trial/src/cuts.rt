@@ -1,7 +1,7 @@
 // One input cut at every point.
-use crate::listing::CALLS;
 use crate::marks::Marks;
 use alphabet::Bytes;
+use listing::log_for;
 use pattern::Pattern;
 use run::{Answer, Call, perform};
 use sink::STOCK_BYTES;
@@ -16,41 +16,35 @@ struct Sum {
 }
 
 // The items that a feed handed over.
-fn items_of(answer: Answer) -> u64 {
+fn items_of(answer: &Answer) -> u64 {
     match answer {
         Answer::Fed(items) => items.unwrap_or(0),
         Answer::Poured(_) => 0,
     }
 }
 
-// The items that the feeds handed over.
-fn fed_items(log: &[Answer]) -> u64 {
-    let mut fed: u64 = 0;
-    for answer in log {
-        fed = fed.saturating_add(items_of(*answer));
-    }
-    fed
-}
-
 // Feeds the pieces and finishes.
 fn read(heap: Global, pattern: &Pattern, pieces: &[Call<'_, u8>]) -> Result<Sum, AllocError> {
     let mut sink = Marks::new(u32::MAX, STOCK_BYTES);
-    let mut log = [Answer::Fed(Ok(0)); CALLS];
+    let mut log = log_for(heap, pieces.len())?;
     let (opened, finished) = perform(pattern, &Bytes, &mut sink, pieces, &mut log, &mut [], true);
+    let fed = log
+        .iter()
+        .fold(opened, |fed, answer| fed.saturating_add(items_of(answer)));
     let all = match finished {
         Some(Ok(all)) => all.items,
         _ => 0,
     };
     Ok(Sum {
-        fed: opened.saturating_add(fed_items(&log)),
+        fed,
         all,
         marks: sink.taken(heap)?,
     })
 }
 
 // Feeds the pieces, ends the line with the sums, and tells whether they and the items are those of `whole`.
-fn print_cut(
-    rt: &HostRuntime,
+fn print_cut<R: Print + AllocGlobal>(
+    rt: &R,
     pattern: &Pattern,
     pieces: &[Call<'_, u8>],
     whole: &Sum,
@@ -62,7 +56,11 @@ fn print_cut(
 }
 
 // Feeds the input whole, in each cut into two pieces, and symbol by symbol, and compares what was handed over.
-pub(crate) fn print_cuts(rt: &HostRuntime, pattern: &Pattern, input: &[u8]) -> anyhow::Result<()> {
+pub(crate) fn print_cuts<R: Print + AllocGlobal>(
+    rt: &R,
+    pattern: &Pattern,
+    input: &[u8],
+) -> anyhow::Result<()> {
     let whole = read(rt.alloc(), pattern, &[Call::Feed(input)])?;
     let marks = &whole.marks;
     println!(rt; "  items {marks}")?;
@@ -72,10 +70,7 @@ pub(crate) fn print_cuts(rt: &HostRuntime, pattern: &Pattern, input: &[u8]) -> a
         print!(rt; "  cut at {at}")?;
         same = print_cut(rt, pattern, &[Call::Feed(front), Call::Feed(back)], &whole)? && same;
     }
-    let mut single = Vec::new(rt.alloc());
-    for symbol in input.chunks(1) {
-        single.push(Call::Feed(symbol))?;
-    }
+    let single: Vec<Call<'_, u8>> = input.chunks(1).map(Call::Feed).collect(rt.alloc())?;
     print!(rt; "  symbol by symbol")?;
     if print_cut(rt, pattern, &single, &whole)? && same {
         println!(rt; "  the same in all cuts")?;

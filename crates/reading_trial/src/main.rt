@@ -11,57 +11,42 @@
 // `few` and `small` it is paired with plain text. A line that begins with `#` is a remark.
 #![tactic(auto)]
 
+use crate::calls::print_calls;
 use crate::cuts::print_cuts;
-use crate::listing::print_calls;
-use crate::refusals::{Short, print_refusals};
-use crate::words::file_of;
+use crate::marks::Marks;
+use crate::refusals::{MANY, print_refusals};
 use alphabet::{Bytes, Tokens};
-use anyhow::anyhow;
-use pattern::Pattern;
+use anyhow::{Context, anyhow};
+use console::pattern_of;
+use listing::without_finish;
+use sink::STOCK_BYTES;
+use tables::{hex_bytes, perform_cases};
 use text::Manner;
 
+mod calls;
 mod cuts;
-mod listing;
 mod marks;
 mod refusals;
-mod words;
 
 // One line.
-fn line(rt: &HostRuntime, text: &str) -> anyhow::Result<()> {
-    let Some((head, words)) = text.split_once("=") else {
-        return Err(anyhow!("a line without ="));
-    };
+fn perform_line<R: Print + AllocGlobal>(rt: &R, text: &str) -> anyhow::Result<()> {
+    let (head, words) = text.split_once("=").context("a line without =")?;
     let (task, digits) = head.split_once(":").unwrap_or(("bytes", head));
-    let mut pattern = Pattern::new();
-    if let Err(fault) = pattern.load(&file_of(rt.alloc(), digits)?) {
-        println!(rt; "  {fault}")?;
-        return Ok(());
-    }
-    let (words, finish) = match words.trim_end().strip_suffix(" .") {
-        Some(words) => (words, true),
-        None => (words, false),
+    let pattern = match pattern_of(&hex_bytes(rt.alloc(), digits)?) {
+        Ok(pattern) => pattern,
+        Err(fault) => return Ok(println!(rt; "  {fault}")?),
     };
+    let (words, finish) = without_finish(words);
     match task {
         "tokens" => print_calls(rt, &pattern, &Tokens, Manner::Numbered, words, finish),
-        "few" => print_refusals(rt, &pattern, words, Short::Expected),
-        "small" => print_refusals(rt, &pattern, words, Short::Room),
+        "few" => print_refusals(rt, &pattern, words, |n| Marks::new(n, STOCK_BYTES)),
+        "small" => print_refusals(rt, &pattern, words, |n| Marks::new(MANY, n as usize)),
         "cuts" => print_cuts(rt, &pattern, words.trim().as_bytes()),
         "bytes" => print_calls(rt, &pattern, &Bytes, Manner::Plain, words, finish),
         _ => Err(anyhow!("a word before the file that asks for nothing known")),
     }
 }
 
-fn all(rt: &HostRuntime) -> anyhow::Result<()> {
-    for text in rt.lines(rt.alloc()) {
-        let text = text?;
-        println!(rt; "{text}")?;
-        if !text.as_str().starts_with("#") {
-            line(rt, text.as_str())?;
-        }
-    }
-    Ok(())
-}
-
 fn main(rt: HostRuntime) -> anyhow::Result<()> {
-    all(&rt)
+    perform_cases(&rt, |line| perform_line(&rt, line))
 }

@@ -76,17 +76,12 @@ impl Sink for Marks {
         if self.left == 0 {
             return Err(refused(Cause::NotExpected));
         }
-        if !self.stock.append(&[mark(item)]) {
-            return Err(refused(Cause::ChannelFull));
-        }
+        self.stock.append(&[mark(item)])?;
         self.left -= 1;
         Ok(())
     }
 
     fn pour(&mut self, channel: u32, buffer: &mut [u8]) -> Result<usize, Fault> {
-        if channel != 0 {
-            return Err(refused(Cause::NoChannel));
-        }
-        self.stock.pour(buffer)
+        self.stock.pour_channel(channel, buffer)
     }
 }

@@ -1,5 +1,8 @@
 // The commands of the program.
-use crate::{again, check, explain, items, reading, show};
+use crate::list;
+use crate::words::load;
+use console::{Failure, hand_items, show_files};
+use std::rt::Files;
 
 const USAGE: &str = "usage:
   relay_lists read PATTERN bytes|tokens plain|numbered INPUT ROWS CHOICES
@@ -11,31 +14,24 @@ const USAGE: &str = "usage:
   relay_lists batch FILE
 An input - is standard input, rows - are standard output.";
 
-// What came of a command: it was done, or it was refused, which was told on a line.
-#[derive(Clone, Copy)]
-pub(crate) enum Outcome {
-    Done,
-    Refused,
-}
-
 // Prints how the program is used.
-fn usage(rt: &HostRuntime) -> anyhow::Result<Outcome> {
+fn usage(rt: &impl Eprint) -> Result<(), Failure> {
     eprintln!(rt; "{USAGE}")?;
-    Ok(Outcome::Refused)
+    Err(Failure::Refused)
 }
 
 // Performs one command, given by its words.
-pub(crate) fn perform(rt: &HostRuntime, words: &[String]) -> anyhow::Result<Outcome> {
+pub(crate) fn perform<R: Files + Input + Print + Eprint + AllocGlobal>(
+    rt: &R,
+    words: &[String],
+) -> Result<(), Failure> {
     let [name, rest @ ..] = words else {
         return usage(rt);
     };
     match name.as_str() {
-        "read" => reading::run(rt, rest),
-        "replay" => again::run(rt, rest),
-        "check" => check::run(rt, rest),
-        "explain" => explain::run(rt, rest),
-        "show" => show::files(rt, rest),
-        "items" => items::run(rt, rest),
+        "show" => show_files(rt, rest),
+        "items" => hand_items(rt, "relay_lists", rest, |name| load(rt, name)),
+        name @ ("read" | "replay" | "check" | "explain") => list::run(rt, name, rest),
         _ => usage(rt),
     }
 }

@@ -1,38 +1,33 @@
 // Why the rows of a reading came out as they did: each choice of the greedy walk, in order.
-use crate::command::Outcome;
-use crate::out::{Outlet, Outlets, Voice};
-use crate::reading::{Reading, read_input, tell_end};
-use crate::show::print_text;
-use crate::symbols::{Telling, all_bytes, all_events};
-use crate::words::{Letters, letters_of, load, manner_of};
-use alphabet::{Alphabet, Bytes, Tokens};
-use anyhow::anyhow;
-use fault::Fault;
+use crate::list::List;
+use crate::out::{Outlets, Place};
+use crate::source::open;
+use crate::symbols::Readable;
+use console::{Failure, Quoted, pour_behind, told};
 use pattern::{Pattern, Point};
-use playback::{Playback, Played};
-use sink::{STOCK_BYTES, Sink};
+use replay::{Playback, Played};
+use sink::STOCK_BYTES;
 use std::alloc::Global;
 use std::io;
+use std::rt::Files;
 use text::Text;
-
-const USAGE: &str = "usage: relay_lists explain PATTERN bytes|tokens plain|numbered INPUT";
 
 // Where in an input: after so many symbols, in which line and column, each from 1.
 #[derive(Clone, Copy)]
-struct Place {
+struct Position {
     read: usize,
     line: u64,
     column: u64,
 }
 
-impl Place {
+impl Position {
     // Goes past the next of the symbols, if there is one.
-    fn pass_in<T: Telling>(&mut self, symbols: &[T]) {
+    fn pass_in<A: Readable>(&mut self, symbols: &[A::Symbol]) {
         let Some(symbol) = symbols.get(self.read) else {
             return;
         };
         self.read = self.read.saturating_add(1);
-        if symbol.ends_line() {
+        if A::ends_line(symbol) {
             self.line = self.line.saturating_add(1);
             self.column = 1;
         } else {
@@ -55,8 +50,8 @@ struct Group {
     choice: Option<Choice>,
     before: u64,
     count: u64,
-    first: Place,
-    last: Place,
+    first: Position,
+    last: Position,
     text: Vec<u8>,
 }
 
@@ -72,7 +67,7 @@ fn branch_words(pattern: &Pattern, choice: Choice) -> &'static str {
 
 impl Group {
     fn new(heap: Global) -> Group {
-        let start = Place {
+        let start = Position {
             read: 0,
             line: 1,
             column: 1,
@@ -88,7 +83,7 @@ impl Group {
     }
 
     // One more of the same choice, taken there; false where it is another choice.
-    fn goes_on(&mut self, choice: Choice, place: Place) -> bool {
+    fn goes_on(&mut self, choice: Choice, place: Position) -> bool {
         if self.choice != Some(choice) {
             return false;
         }
@@ -98,7 +93,7 @@ impl Group {
     }
 
     // Begins with this choice, taken there.
-    fn begin(&mut self, choice: Choice, place: Place) {
+    fn begin(&mut self, choice: Choice, place: Position) {
         self.before = self.before.saturating_add(self.count);
         self.choice = Some(choice);
         self.count = 1;
@@ -108,7 +103,7 @@ impl Group {
     }
 
     // Prints where the choices were taken, which they are, counted from 1, and which point and branch.
-    fn print_choice(&self, rt: &HostRuntime, pattern: &Pattern, choice: Choice) -> io::Result<()> {
+    fn print_choice(&self, rt: &impl Print, pattern: &Pattern, choice: Choice) -> io::Result<()> {
         let first = self.before.saturating_add(1);
         let last = self.before.saturating_add(self.count);
         let (line, column) = (self.first.line, self.first.column);
@@ -124,117 +119,70 @@ impl Group {
     }
 
     // Prints the choices, the line ahead of the first, and what was written.
-    fn print<T: Telling>(
+    fn print<A: Readable>(
         &self,
-        rt: &HostRuntime,
+        rt: &impl Print,
         pattern: &Pattern,
-        symbols: &[T],
+        symbols: &[A::Symbol],
     ) -> io::Result<()> {
         if let Some(choice) = self.choice {
             self.print_choice(rt, pattern, choice)?;
-            if self.first.read <= symbols.len() {
+            if let Some(rest) = symbols.get(self.first.read..) {
                 print!(rt; ", before ")?;
-                T::print_line(rt, &symbols[self.first.read..])?;
+                A::print_line(rt, rest)?;
             }
             println!(rt; "")?;
         }
         if self.text.is_empty() {
             return Ok(());
         }
-        print!(rt; "    writes ")?;
-        print_text(rt, &self.text)?;
-        println!(rt; "")
+        println!(rt; "    writes {}", Quoted(&self.text))
     }
 }
 
-// Pours what an item wrote behind what the group has written.
-fn pour_text<K: Sink>(sink: &mut K, buffer: &mut [u8], text: &mut Vec<u8>) -> anyhow::Result<()> {
-    match sink.pour(0, buffer) {
-        Ok(count) if count <= buffer.len() => {
-            text.extend_from_slice(&buffer[0..count])?;
-            Ok(())
-        }
-        _ => Err(anyhow!("a pour was refused")),
-    }
-}
-
-// Follows the choices over the symbols, and prints each.
-fn follow<'p, T: Telling, A: Alphabet<Symbol = T>>(
-    reading: &Reading<'p>,
-    alphabet: &'p A,
-    choices: &'p [u8],
-    symbols: &'p [T],
-) -> anyhow::Result<Outcome> {
-    let (rt, pattern) = (reading.rt, reading.pattern);
-    let mut sink = Text::new(pattern, reading.manner);
-    let mut playback = match Playback::open(pattern, alphabet, choices, symbols) {
-        Ok(playback) => playback,
-        Err(fault) => return refused(rt, fault),
-    };
-    let mut buffer = vec![in rt.alloc(); 0u8; STOCK_BYTES]?;
-    let mut group = Group::new(rt.alloc());
-    let mut place = group.first;
-    for _ in 0..u64::MAX {
-        let played = match playback.next(&mut sink) {
-            Ok(Some(played)) => played,
-            Ok(None) => break,
-            Err(fault) => return refused(rt, fault),
-        };
-        pour_text(&mut sink, &mut buffer, &mut group.text)?;
-        match played {
-            Played::Branch { point, second } => {
-                let choice = Choice { point, second };
-                if !group.goes_on(choice, place) {
-                    group.print(rt, pattern, symbols)?;
-                    group.begin(choice, place);
+impl<R: Files + Input + Print + Eprint + AllocGlobal, A: Readable> List<'_, R, A>
+where
+    A::Symbol: Drop,
+{
+    // Follows the choices over the symbols, and prints each.
+    fn follow(&self, choices: &[u8], symbols: &[A::Symbol]) -> Result<(), Failure> {
+        let (rt, pattern) = (self.rt, self.pattern);
+        let mut sink = Text::new(pattern, self.manner);
+        let mut playback = told(rt, Playback::open(pattern, self.alphabet, choices, symbols))?;
+        let mut buffer = vec![in rt.alloc(); 0u8; STOCK_BYTES]?;
+        let mut group = Group::new(rt.alloc());
+        let mut place = group.first;
+        // Symbols and choices bound the items, but no number does: this is the language's loop to an end.
+        for _ in 0..u64::MAX {
+            let Some(played) = told(rt, playback.next(&mut sink))? else {
+                break;
+            };
+            pour_behind(&mut sink, 0, &mut buffer, &mut group.text)?;
+            match played {
+                Played::Branch { point, second } => {
+                    let choice = Choice { point, second };
+                    if !group.goes_on(choice, place) {
+                        group.print::<A>(rt, pattern, symbols)?;
+                        group.begin(choice, place);
+                    }
                 }
+                Played::Read { point: _ } => place.pass_in::<A>(symbols),
+                Played::End => {}
             }
-            Played::Read { point: _ } => place.pass_in(symbols),
-            Played::End => {}
         }
+        group.print::<A>(rt, pattern, symbols)?;
+        let (count, read) = (group.before.saturating_add(group.count), place.read);
+        println!(rt; "{count} choices over {read} symbols")?;
+        Ok(())
     }
-    group.print(rt, pattern, symbols)?;
-    let (count, read) = (group.before.saturating_add(group.count), place.read);
-    println!(rt; "{count} choices over {read} symbols")?;
-    Ok(Outcome::Done)
-}
 
-fn refused(rt: &HostRuntime, fault: Fault) -> anyhow::Result<Outcome> {
-    println!(rt; "{fault}")?;
-    Ok(Outcome::Refused)
-}
-
-// The command: a pattern file, an alphabet, a manner and an input.
-pub(crate) fn run(rt: &HostRuntime, words: &[String]) -> anyhow::Result<Outcome> {
-    let [name, letters, manner, input] = words else {
-        return Err(anyhow!("{USAGE}"));
-    };
-    let letters = letters_of(letters.as_str())?;
-    let mut pattern = Pattern::new();
-    if !load(rt, name.as_str(), &mut pattern)? {
-        return Ok(Outcome::Refused);
-    }
-    let reading = Reading {
-        rt,
-        pattern: &pattern,
-        manner: manner_of(manner.as_str())?,
-        voice: Voice::Output,
-    };
-    let heap = rt.alloc();
-    let mut outlets = Outlets::new(heap, Outlet::nowhere(heap), Outlet::memory(heap))?;
-    let ended = read_input(&reading, letters, input.as_str(), &mut outlets)?;
-    if let Outcome::Refused = tell_end(rt, Voice::Output, ended, &outlets)? {
-        return Ok(Outcome::Refused);
-    }
-    let choices = outlets.choices.bytes();
-    match letters {
-        Letters::Bytes => {
-            let symbols = all_bytes(rt, input.as_str())?;
-            follow(&reading, &Bytes, choices, &symbols)
-        }
-        Letters::Tokens => {
-            let symbols = all_events(rt, input.as_str())?;
-            follow(&reading, &Tokens, choices, &symbols)
-        }
+    // The command.
+    pub(crate) fn explain(&self) -> Result<(), Failure> {
+        let heap = self.rt.alloc();
+        let mut outlets: Outlets<R::File> = Outlets::new(heap, Place::Nowhere, Place::Memory)?;
+        let ended = self.read_into(&mut outlets);
+        self.tell_end(ended, &outlets)?;
+        let symbols = A::all(heap, self.input, open(self.rt, self.input)?)?;
+        self.follow(outlets.choices(), &symbols)
     }
 }

@@ -16,58 +16,18 @@
 // An input - is standard input, rows - are standard output; what was done is then told on standard error.
 #![tactic(auto)]
 
-use anyhow::anyhow;
-use std::{env, fs};
-
 mod again;
 mod check;
 mod command;
 mod explain;
-mod items;
+mod list;
 mod out;
 mod reading;
-mod show;
 mod source;
+mod stop;
 mod symbols;
 mod words;
 
-use command::Outcome;
-
-// Runs each line of a file as a command, after printing it. Refusals are told and passed over.
-fn batch(rt: &HostRuntime, name: &str) -> anyhow::Result<()> {
-    let heap = rt.alloc();
-    let text = fs::read_to_string(rt, name)?;
-    for line in text.as_str().lines() {
-        let mut words = Vec::new(heap);
-        for word in line.split_whitespace() {
-            words.push(String::from_str(heap, word)?)?;
-        }
-        println!(rt; "> {line}")?;
-        match command::perform(rt, &words)? {
-            Outcome::Done => {}
-            Outcome::Refused => {}
-        }
-    }
-    Ok(())
-}
-
-fn run(rt: &HostRuntime) -> anyhow::Result<Outcome> {
-    let mut words = Vec::new(rt.alloc());
-    for word in env::args(rt)?.skip(1) {
-        words.push(word)?;
-    }
-    if words.len() == 2 && words[0].as_str() == "batch" {
-        batch(rt, words[1].as_str())?;
-        return Ok(Outcome::Done);
-    }
-    command::perform(rt, &words)
-}
-
-// A refusal was told already; any other error is told here.
 fn main(rt: HostRuntime) -> anyhow::Result<()> {
-    match run(&rt) {
-        Ok(Outcome::Done) => Ok(()),
-        Ok(Outcome::Refused) => Err(anyhow!("refused")),
-        Err(error) => Err(error),
-    }
+    console::run(&rt, |words| command::perform(&rt, words))
 }

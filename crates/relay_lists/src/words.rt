@@ -1,9 +1,10 @@
 // What the words of a command name.
 use anyhow::anyhow;
+use console::{Failure, pattern_of, told};
 use pattern::Pattern;
-use std::alloc::Global;
+use std::rt::Files;
+use std::str::FromStr;
 use std::{fs, io};
-use text::Manner;
 
 // The alphabets that an input can be read by.
 #[derive(Clone, Copy)]
@@ -14,47 +15,33 @@ pub(crate) enum Letters {
     Tokens,
 }
 
-// The alphabet of this name.
-pub(crate) fn letters_of(name: &str) -> anyhow::Result<Letters> {
-    match name {
-        "bytes" => Ok(Letters::Bytes),
-        "tokens" => Ok(Letters::Tokens),
-        _ => Err(anyhow!("an alphabet is bytes or tokens")),
-    }
-}
+impl FromStr for Letters {
+    type Err = anyhow::Error;
 
-// The manner of this name.
-pub(crate) fn manner_of(name: &str) -> anyhow::Result<Manner> {
-    match name {
-        "plain" => Ok(Manner::Plain),
-        "numbered" => Ok(Manner::Numbered),
-        _ => Err(anyhow!("a manner is plain or numbered")),
+    fn from_str(word: &str) -> anyhow::Result<Letters> {
+        match word {
+            "bytes" => Ok(Letters::Bytes),
+            "tokens" => Ok(Letters::Tokens),
+            _ => Err(anyhow!("an alphabet is bytes or tokens")),
+        }
     }
 }
 
 // An error with the name of the file that it is about.
-pub(crate) fn about(heap: Global, name: &str, error: io::Error) -> anyhow::Error {
-    match format!(in heap; "{name}: {error}") {
-        Ok(text) => anyhow!("{text}"),
-        Err(_) => error.into(),
-    }
+pub(crate) fn about(name: &str, error: io::Error) -> anyhow::Error {
+    anyhow!("{name}: {error}")
 }
 
-// The bytes of a file.
-pub(crate) fn bytes_of(rt: &HostRuntime, name: &str) -> anyhow::Result<Vec<u8>> {
-    match fs::read(rt, name) {
-        Ok(bytes) => Ok(bytes),
-        Err(error) => Err(about(rt.alloc(), name, error)),
-    }
+// The bytes of the file of this name.
+pub(crate) fn bytes_of<R: Files + AllocGlobal>(rt: &R, name: &str) -> anyhow::Result<Vec<u8>> {
+    fs::read(rt, name).map_err(|error| about(name, error))
 }
 
-// Loads a pattern file; false where it is refused, which is told.
-pub(crate) fn load(rt: &HostRuntime, name: &str, pattern: &mut Pattern) -> anyhow::Result<bool> {
-    let file = bytes_of(rt, name)?;
-    if let Err(fault) = pattern.load(&file) {
-        println!(rt; "{fault}")?;
+// The pattern of the file of this name. Its refusal is told.
+pub(crate) fn load<R: Files + Print + AllocGlobal>(rt: &R, name: &str) -> Result<Pattern, Failure> {
+    let pattern = told(rt, pattern_of(&bytes_of(rt, name)?));
+    if let Err(Failure::Refused) = &pattern {
         println!(rt; "left behind: nothing, since {name} is no pattern")?;
-        return Ok(false);
     }
-    Ok(true)
+    pattern
 }

@@ -4,7 +4,7 @@ ghost use Rattle.sink.specs.Meaning.{nothing};
 ghost use Rattle.replay_trial.specs.Few.{few_meaning};
 
 use fault::{Cause, Fault};
-use sink::Sink;
+use sink::{Sink, refused};
 
 #[derive(Drop)]
 pub(crate) struct Few {
@@ -28,10 +28,7 @@ impl Sink for Few {
 
     fn would(&self, _item: u32) -> Result<(), Fault> {
         if self.left == 0 {
-            return Err(Fault {
-                cause: Cause::NotExpected,
-                place: 0,
-            });
+            return Err(refused(Cause::NotExpected));
         }
         Ok(())
     }
@@ -43,9 +40,6 @@ impl Sink for Few {
     }
 
     fn pour(&mut self, _channel: u32, _buffer: &mut [u8]) -> Result<usize, Fault> {
-        Err(Fault {
-            cause: Cause::NoChannel,
-            place: 0,
-        })
+        Err(refused(Cause::NoChannel))
     }
 }

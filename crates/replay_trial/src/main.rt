@@ -6,110 +6,49 @@
 #![tactic(auto)]
 
 use alphabet::Bytes;
-use anyhow::anyhow;
-use fault::Fault;
+use anyhow::bail;
+use console::{bits_and_text, pattern_of};
 use few::Few;
-use pattern::Pattern;
 use replay::replay;
-use sink::{Bits, Pair};
-use std::alloc::{AllocError, Global};
-use text::{Manner, Text};
+use std::alloc::Global;
+use tables::{compare_cases, fault_words, hex_bytes};
+use text::Manner;
 
 mod few;
 
-// The bytes of pairs of hexadecimal digits.
-fn bytes_of(heap: Global, text: &str) -> anyhow::Result<Vec<u8>> {
-    let mut bytes = Vec::new(heap);
-    for word in text.split_whitespace() {
-        bytes.push(u8::from_str_radix(word, 16)?)?;
-    }
-    Ok(bytes)
-}
-
-// An answer, as the table writes it.
-fn told(heap: Global, answer: Result<u128, Fault>) -> Result<String, AllocError> {
-    match answer {
-        Ok(items) => format!(in heap; "ok {items}"),
-        Err(fault) => {
-            let (number, place) = (fault.number(), fault.place);
-            format!(in heap; "{number} {place}")
-        }
-    }
-}
-
-// A replay into the sink of this name.
-fn outcome(
-    heap: Global,
-    sink: &str,
-    pattern: &Pattern,
-    bits: &[u8],
-    symbols: &[u8],
-) -> anyhow::Result<String> {
-    if sink == "all" {
-        let mut pair = Pair {
-            first: Bits::new(),
-            second: Text::new(pattern, Manner::Plain),
-        };
-        return Ok(told(heap, replay(pattern, &Bytes, bits, symbols, &mut pair))?);
-    }
-    let mut few = Few::new(sink.parse::<u32>()?);
-    Ok(told(heap, replay(pattern, &Bytes, bits, symbols, &mut few))?)
-}
-
-// One line: true where the outcome is the expected one.
-fn case(rt: &HostRuntime, line: &str) -> anyhow::Result<bool> {
-    let heap = rt.alloc();
-    let Some((expected, rest)) = line.split_once("=") else {
-        return Err(anyhow!("a line without ="));
-    };
-    let mut parts = rest.split("|");
+// The outcome of a line's replay, as the table writes it.
+fn outcome(heap: Global, text: &str) -> anyhow::Result<String> {
+    let mut parts = text.split("|");
     let (Some(sink), Some(file), Some(bits), Some(symbols)) = (
         parts.next(),
         parts.next(),
         parts.next(),
         parts.next(),
     ) else {
-        return Err(anyhow!("a line without four parts"));
+        bail!("a line without four parts");
     };
-    let mut pattern = Pattern::new();
-    if pattern.load(&bytes_of(heap, file)?).is_err() {
-        return Err(anyhow!("a pattern that is refused"));
-    }
-    let found = outcome(
-        heap,
-        sink.trim(),
-        &pattern,
-        &bytes_of(heap, bits)?,
-        &bytes_of(heap, symbols)?,
-    )?;
-    if found.as_str() == expected.trim() {
-        return Ok(true);
-    }
-    println!(rt; "DIFFERENT: {line}\n  found {found}")?;
-    Ok(false)
-}
-
-fn run(rt: &HostRuntime) -> anyhow::Result<()> {
-    let mut good: u64 = 0;
-    let mut all: u64 = 0;
-    for line in rt.lines(rt.alloc()) {
-        let line = line?;
-        if line.as_str().starts_with("#") {
-            continue;
+    let Ok(pattern) = pattern_of(&hex_bytes(heap, file)?) else {
+        bail!("a pattern that is refused");
+    };
+    let bits = hex_bytes(heap, bits)?;
+    let symbols = hex_bytes(heap, symbols)?;
+    let answer = match sink.trim() {
+        "all" => {
+            let mut pair = bits_and_text(&pattern, Manner::Plain);
+            replay(&pattern, &Bytes, &bits, &symbols, &mut pair)
         }
-        all = all.saturating_add(1);
-        if case(rt, line.as_str())? {
-            good = good.saturating_add(1);
+        count => {
+            let mut few = Few::new(count.parse::<u32>()?);
+            replay(&pattern, &Bytes, &bits, &symbols, &mut few)
         }
-    }
-    println!(rt; "{good} of {all} replays came out as expected")?;
-    if good == all {
-        Ok(())
-    } else {
-        Err(anyhow!("some replays came out otherwise"))
-    }
+    };
+    Ok(match answer {
+        Ok(items) => format!(in heap; "ok {items}")?,
+        Err(fault) => fault_words(heap, fault)?,
+    })
 }
 
 fn main(rt: HostRuntime) -> anyhow::Result<()> {
-    run(&rt)
+    let heap = rt.alloc();
+    compare_cases(&rt, "replays", |text| outcome(heap, text))
 }

@@ -1,23 +1,13 @@
 // Pattern files in readable form.
-use crate::command::Outcome;
+use crate::failure::{Failure, told};
+use crate::loading::pattern_of;
+use crate::quoting::Quoted;
 use pattern::{Pattern, Point, limits};
+use std::rt::Files;
 use std::{fs, io};
 
-// Bytes in quotes; a byte that is no plain ASCII character is shown as \xHH.
-pub(crate) fn print_text(rt: &HostRuntime, bytes: &[u8]) -> io::Result<()> {
-    print!(rt; "\"")?;
-    for byte in bytes {
-        match *byte {
-            b'"' | b'\\' => print!(rt; "\\{}", char::from(*byte))?,
-            b' '..=b'~' => print!(rt; "{}", char::from(*byte))?,
-            other => print!(rt; "\\x{other:02x}")?,
-        }
-    }
-    print!(rt; "\"")
-}
-
 // One point: its number, its kind, and where it leads.
-fn print_point(rt: &HostRuntime, pattern: &Pattern, at: u8, point: Point) -> io::Result<()> {
+fn print_point(rt: &impl Print, pattern: &Pattern, at: u8, point: Point) -> io::Result<()> {
     print!(rt; "  {at}: ")?;
     match point {
         Point::Read {
@@ -30,22 +20,14 @@ fn print_point(rt: &HostRuntime, pattern: &Pattern, at: u8, point: Point) -> io:
             class,
             next,
         } => println!(rt; "read class {class} and drop it, then {next}"),
-        Point::Text {
-            start: _,
-            len: _,
-            next,
-        } => {
-            print!(rt; "text ")?;
-            print_text(rt, pattern.text(at))?;
-            println!(rt; ", then {next}")
-        }
+        Point::Text { next, .. } => println!(rt; "text {}, then {next}", Quoted(pattern.text(at))),
         Point::Choice { first, second } => println!(rt; "choice: first {first}, second {second}"),
         Point::Star { first, second } => println!(rt; "star: round {first}, on {second}"),
     }
 }
 
 // A pattern: its points from the first to the end, and how much of each limit it uses.
-fn print_pattern(rt: &HostRuntime, pattern: &Pattern, file_bytes: usize) -> io::Result<()> {
+fn print_pattern(rt: &impl Print, pattern: &Pattern, file_bytes: usize) -> io::Result<()> {
     let count = pattern.count();
     let entry = pattern.entry();
     println!(rt; "  entered at {entry}")?;
@@ -62,34 +44,25 @@ fn print_pattern(rt: &HostRuntime, pattern: &Pattern, file_bytes: usize) -> io::
     )
 }
 
-// Loads one file and prints what came of it; false where it was refused.
-fn print_file(rt: &HostRuntime, name: &str) -> anyhow::Result<bool> {
+// Loads one file and prints what came of it.
+fn show_file<R: Files + Print + AllocGlobal>(rt: &R, name: &str) -> Result<(), Failure> {
     let file = fs::read(rt, name)?;
     println!(rt; "{name}:")?;
-    let mut pattern = Pattern::new();
-    match pattern.load(&file) {
-        Ok(()) => {
-            print_pattern(rt, &pattern, file.len())?;
-            Ok(true)
-        }
-        Err(fault) => {
-            println!(rt; "{fault}")?;
-            Ok(false)
-        }
-    }
+    let pattern = told(rt, pattern_of(&file))?;
+    Ok(print_pattern(rt, &pattern, file.len())?)
 }
 
 // Prints each file, and how many were shown and refused. A refused file is shown too: its refusal is what was asked for.
-pub(crate) fn files(rt: &HostRuntime, names: &[String]) -> anyhow::Result<Outcome> {
+pub fn show_files<R: Files + Print + AllocGlobal>(rt: &R, names: &[String]) -> Result<(), Failure> {
     let mut shown: u64 = 0;
     let mut refused: u64 = 0;
     for name in names {
-        if print_file(rt, name.as_str())? {
-            shown = shown.saturating_add(1);
-        } else {
-            refused = refused.saturating_add(1);
+        match show_file(rt, name.as_str()) {
+            Ok(()) => shown = shown.saturating_add(1),
+            Err(Failure::Refused) => refused = refused.saturating_add(1),
+            Err(error) => return Err(error),
         }
     }
     println!(rt; "{shown} shown, {refused} refused")?;
-    Ok(Outcome::Done)
+    Ok(())
 }

@@ -1,0 +1,20 @@
+// What words stand for.
+use crate::{Step, steps_of, without_finish};
+use alphabet::Token;
+
+#[test]
+fn words_are_steps(rt: HostRuntime) -> anyhow::Result<()> {
+    let steps = steps_of::<u8>(rt.alloc(), "2*ab >1")?;
+    assert!(rt; matches!(steps.as_slice(), [Step::Feed(_), Step::Pour(1)]));
+    let steps = steps_of::<Token>(rt.alloc(), "15:-2048,0:7")?;
+    assert!(rt; matches!(steps.as_slice(), [Step::Feed(_)]));
+    assert!(rt; steps_of::<Token>(rt.alloc(), "16:0").is_err());
+    Ok(())
+}
+
+#[test]
+fn the_finish_stands_alone(rt: HostRuntime) {
+    assert!(rt; without_finish(" a b . ").1);
+    assert!(rt; !without_finish(" a b.").1);
+    assert!(rt; without_finish(" .").1);
+}

@@ -1,0 +1,10 @@
+// Tables of cases, which the trials read from standard input: a case a line, and remarks, which begin with #.
+#![tactic(auto)]
+
+mod cases;
+#[cfg(test)]
+mod tests;
+mod words;
+
+pub use cases::{compare_cases, fault_words, perform_cases};
+pub use words::{hex_bytes, word_bytes};
