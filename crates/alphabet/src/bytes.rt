@@ -7,6 +7,7 @@ use super::Alphabet;
 #[derive(Clone, Copy)]
 pub struct Bytes;
 
+// The classes stay numbers: a pattern file names them, and a caller may ask about any number.
 impl Bytes {
     // Any byte.
     pub const ANY: u32 = 256;

@@ -1,4 +1,5 @@
 // The items that the code of a walk lists, as numbers: a branch taken, a symbol read, or the mark at the end of a greedy code.
+// They stay numbers: a sink may be handed any number, and has to refuse what it does not expect.
 
 ghost use Rattle.std.specs.Prelude.{◌≡◌, ◌≤◌, IfSome};
 ghost use Rattle.alphabet.specs.Items.{first_read, last_read};

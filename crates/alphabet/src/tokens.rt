@@ -9,6 +9,7 @@ use super::{Alphabet, Token};
 #[derive(Clone, Copy)]
 pub struct Tokens;
 
+// The classes stay numbers, as those of bytes do.
 impl Tokens {
     // The classes below this are each one kind, whatever the value.
     pub const BELOW_ZERO: u32 = LAST_KIND as u32 + 1;

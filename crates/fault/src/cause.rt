@@ -35,7 +35,7 @@ pub enum Cause {
 }
 
 impl Cause {
-    // The cause's number, from 1 to 13.
+    // The cause's number, from 1 to 13. Number, layer and words stay methods: their names say what is asked for, where a conversion to u8 would not.
     pub fn number(self) -> u8
         ensures { result ≡ number self }
     {

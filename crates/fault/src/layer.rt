@@ -14,7 +14,7 @@ pub enum Layer {
 }
 
 impl Layer {
-    // The layer's number, from 1 to 3.
+    // The layer's number, from 1 to 3. A method, as the number of a cause is.
     pub fn number(self) -> u8
         ensures { result ≡ layer_number self }
     {
