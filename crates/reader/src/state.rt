@@ -1,4 +1,7 @@
 // The state of a reading.
+ghost use Rattle.std.specs.Prelude.{◌≡◌, ◌<◌, ◌≤◌, true, false};
+ghost use Rattle.tree.specs.Limits.{countable};
+
 use crate::buffer::Buffer;
 use crate::stop::Stop;
 use alphabet::Alphabet;
@@ -33,6 +36,14 @@ pub(crate) type Line = ArrayVec<Walk, WALKS>;
 pub(crate) struct Core {
     pub(crate) traversal: Traversal,
     pub(crate) live: Line,
+}
+
+// Whether a tree counts more than it may.
+fn is_over(count: usize) -> bool
+    ensures over { result ≡ true → countable < count }
+    ensures within { result ≡ false → count ≤ countable }
+{
+    count > COUNTABLE
 }
 
 impl Core {
@@ -75,7 +86,7 @@ impl Core {
             return Err(Stop::Dead);
         }
         out.gather(&mut self.traversal.tree);
-        if self.traversal.tree.count() > COUNTABLE {
+        if is_over(self.traversal.tree.count()) {
             out.items.clear();
             return Err(Stop::TreeFull);
         }

@@ -35,7 +35,7 @@ impl<'f, A: Alphabet> Playback<'f, A> {
         ensures { MatchResult result (λ b. Opens (A.Alphabet.meaning alphabet.now) pattern.now filed.now symbols.now alphabet.now b.grammar.pattern.now b.cursor b.filed.now b.symbols.now b.grammar.alphabet.now) (λ f. Bars (A.Alphabet.meaning alphabet.now) pattern.now f) }
     {
         let grammar = Grammar { pattern, alphabet };
-        if !grammar.knows_classes() {
+        if !grammar.reads_below(alphabet.class_count()) {
             return Err(Fault::new(Cause::UnknownClass, 0));
         }
         Ok(Playback {

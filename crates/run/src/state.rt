@@ -32,7 +32,7 @@ impl<'p, A: Alphabet> State<'p, A> {
     {
         let mut out = Buffer::new();
         let reader = Reader::open(grammar.pattern, grammar.alphabet, &mut out);
-        if !grammar.knows_classes() {
+        if !grammar.reads_below(grammar.alphabet.class_count()) {
             let book = Book {
                 read: 0,
                 handed: 0,

@@ -84,7 +84,8 @@ impl PathTree {
         ensures { Takes self.old result self.new }
     {
         let root = self.table.root;
-        if self.is_held(root) {
+        let held = self.is_held(root);
+        if held {
             return None;
         }
         let Next::Only(child) = self.next(root) else {

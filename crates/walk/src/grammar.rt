@@ -25,13 +25,21 @@ fn reads_beyond(pattern: &Pattern, point: u8, count: u32) -> bool
 }
 
 impl<'p, A: Alphabet> Grammar<'p, A> {
-    // Whether the alphabet has every class that the pattern reads. A class is a number of a pattern file.
+    // Whether the alphabet has every class that the pattern reads.
     pub fn knows_classes(&self) -> bool
         ensures known { result ≡ true → ClassesBelow (A.meaning self.now.alphabet.now).classes (graph_of self.now.pattern.now) }
         ensures numbered { result ≡ true → ClassesBelow (largest_number + 1) (graph_of self.now.pattern.now) }
         ensures unknown { result ≡ false → LacksClass (A.meaning self.now.alphabet.now).classes (graph_of self.now.pattern.now) }
     {
-        let count = self.alphabet.class_count();
+        self.reads_below(self.alphabet.class_count())
+    }
+
+    // Whether every class that the pattern reads is below the count. A class is a number of a pattern file.
+    pub fn reads_below(&self, count: u32) -> bool
+        ensures below { result ≡ true → ClassesBelow count (graph_of self.now.pattern.now) }
+        ensures numbered { result ≡ true → ClassesBelow (largest_number + 1) (graph_of self.now.pattern.now) }
+        ensures beyond { result ≡ false → LacksClass count (graph_of self.now.pattern.now) }
+    {
         for point in 0..self.pattern.count() {
             if reads_beyond(self.pattern, point, count) {
                 return false;
