@@ -3,14 +3,18 @@ use crate::failure::Failure;
 use std::rt::{Env, Files};
 use std::{env, fs};
 
+// The commands of a program. A trait, since a function that is passed a closure has to ask that it may be called.
+pub trait Commands {
+    // Performs the command of these words.
+    fn perform(&self, words: &[String]) -> Result<(), Failure>;
+}
+
 // Performs each line of a file, after printing it. Refusals are told and passed over.
-fn batch<R: Files + Print + AllocGlobal, P: Fn(&[String]) -> Result<(), Failure>>(
+fn batch<R: Files + Print + AllocGlobal, C: Commands>(
     rt: &R,
     name: &str,
-    perform: P,
-) -> Result<(), Failure>
-    requires { P.IsAlwaysCallable perform }
-{
+    commands: &C,
+) -> Result<(), Failure> {
     let heap = rt.alloc();
     let text = fs::read_to_string(rt, name)?;
     for line in text.as_str().lines() {
@@ -19,7 +23,7 @@ fn batch<R: Files + Print + AllocGlobal, P: Fn(&[String]) -> Result<(), Failure>
             .map(|word| String::from_str(heap, word))
             .try_collect(heap)?;
         println!(rt; "> {line}")?;
-        match perform(&words) {
+        match commands.perform(&words) {
             Ok(()) | Err(Failure::Refused) => {}
             Err(error) => return Err(error),
         }
@@ -28,16 +32,14 @@ fn batch<R: Files + Print + AllocGlobal, P: Fn(&[String]) -> Result<(), Failure>
 }
 
 // Performs the command that the program was called with; `batch FILE` performs each line of the file.
-pub fn run<R: Env + Files + Print + AllocGlobal, P: Fn(&[String]) -> Result<(), Failure>>(
+pub fn run<R: Env + Files + Print + AllocGlobal, C: Commands>(
     rt: &R,
-    perform: P,
-) -> anyhow::Result<()>
-    requires { P.IsAlwaysCallable perform }
-{
+    commands: &C,
+) -> anyhow::Result<()> {
     let words: Vec<String> = env::args(rt)?.skip(1).collect(rt.alloc())?;
     let done = match words.as_slice() {
-        [name, file] if name.as_str() == "batch" => batch(rt, file.as_str(), perform),
-        words => perform(words),
+        [name, file] if name.as_str() == "batch" => batch(rt, file.as_str(), commands),
+        words => commands.perform(words),
     };
     done.map_err(Failure::into_error)
 }

@@ -7,6 +7,12 @@ use pattern::Pattern;
 use sink::hand_over;
 use text::Manner;
 
+// Where a program has its patterns.
+pub trait Patterns {
+    // The pattern of the file of this name. Its refusal is told.
+    fn load(&self, name: &str) -> Result<Pattern, Failure>;
+}
+
 // Hands the items over, and prints how many were taken, the refusal if one was not, and what each channel received.
 fn hand<R: Print + AllocGlobal>(
     rt: &R,
@@ -18,7 +24,10 @@ fn hand<R: Print + AllocGlobal>(
     let handed = hand_over(&mut pair, items);
     let (count, all) = (handed.count, items.len());
     println!(rt; "taken {count} of {all} items")?;
-    let done = told(rt, handed.answer);
+    let done = match told(rt, handed.answer) {
+        Err(Failure::Other(error)) => return Err(Failure::Other(error)),
+        done => done,
+    };
     let mut poured = Poured::new(rt.alloc())?;
     poured.pour(&mut pair)?;
     println!(rt; "bits:{}", Digits(&poured.bits))?;
@@ -26,15 +35,13 @@ fn hand<R: Print + AllocGlobal>(
     done
 }
 
-// The command `items` of the program of this name: a pattern file, a manner, and items as numbers. `load` gives the pattern of a file's name.
-pub fn hand_items<R: Print + AllocGlobal, L: FnOnce(&str) -> Result<Pattern, Failure>>(
+// The command `items` of the program of this name: a pattern file, a manner, and items as numbers.
+pub fn hand_items<R: Print + AllocGlobal, P: Patterns>(
     rt: &R,
     program: &str,
     words: &[String],
-    load: L,
-) -> Result<(), Failure>
-    requires { L.IsAlwaysCallable load }
-{
+    patterns: &P,
+) -> Result<(), Failure> {
     let [name, manner, rest @ ..] = words else {
         return Err(anyhow!("usage: {program} items PATTERN plain|numbered ITEM..").into());
     };
@@ -43,6 +50,6 @@ pub fn hand_items<R: Print + AllocGlobal, L: FnOnce(&str) -> Result<Pattern, Fai
         .iter()
         .map(|word| word.as_str().parse::<u32>().map_err(anyhow::Error::from))
         .try_collect(rt.alloc())?;
-    let pattern = load(name.as_str())?;
+    let pattern = patterns.load(name.as_str())?;
     hand(rt, &pattern, manner, &items)
 }

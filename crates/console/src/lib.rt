@@ -9,9 +9,9 @@ mod pouring;
 mod quoting;
 mod show;
 
-pub use commands::run;
+pub use commands::{Commands, run};
 pub use failure::{Failure, told};
-pub use items::hand_items;
+pub use items::{Patterns, hand_items};
 pub use loading::pattern_of;
 pub use pouring::{BITS, Poured, TEXT, bits_and_text, pour_behind};
 pub use quoting::{Digits, Quoted};

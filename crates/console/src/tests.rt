@@ -1,7 +1,9 @@
 // That the calls succeed, and what is printed.
 use crate::{
-    Digits, Failure, Poured, Quoted, bits_and_text, hand_items, pattern_of, pour_behind, told,
+    Digits, Failure, Patterns, Poured, Quoted, bits_and_text, hand_items, pattern_of, pour_behind,
+    told,
 };
+use pattern::Pattern;
 use sink::{STOCK_BYTES, hand_over};
 use text::Manner;
 
@@ -35,10 +37,21 @@ fn refusals_are_told(rt: HostRuntime) {
     assert_eq!(rt; "numbered".parse::<Manner>().ok(), Some(Manner::Numbered));
 }
 
+// Has one pattern, whatever the name.
+#[derive(Drop)]
+struct OneFile<'r, R> {
+    rt: &'r R,
+}
+
+impl<R: Print> Patterns for OneFile<'_, R> {
+    fn load(&self, _name: &str) -> Result<Pattern, Failure> {
+        told(self.rt, pattern_of(&FILE))
+    }
+}
+
 #[test]
 fn items_are_handed_over(rt: HostRuntime) -> anyhow::Result<()> {
     let heap = rt.alloc();
-    let load = |_name: &str| told(&rt, pattern_of(&FILE));
     for (last, done) in [("98", false), ("65538", true)] {
         let words = vec![in heap;
             String::from_str(heap, "p")?,
@@ -47,7 +60,10 @@ fn items_are_handed_over(rt: HostRuntime) -> anyhow::Result<()> {
             String::from_str(heap, "99")?,
             String::from_str(heap, last)?,
         ]?;
-        assert_eq!(rt; hand_items(&rt, "t", &words, load).is_ok(), done);
+        assert_eq!(rt;
+            hand_items(&rt, "t", &words, &OneFile { rt: &rt }).is_ok(),
+            done
+        );
     }
     Ok(())
 }

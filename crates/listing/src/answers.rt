@@ -9,6 +9,9 @@ use sink::{STOCK_BYTES, Sink};
 use std::alloc::{AllocError, Global};
 use std::io;
 
+// The most calls of a line whose answers are printed.
+pub const SHOWN_CALLS: usize = 16;
+
 // Room for the answers of so many calls.
 pub fn log_for(heap: Global, calls: usize) -> Result<Vec<Answer>, AllocError>
     ensures { IfOk result (λ log. length log.items ≡ calls) }
@@ -55,7 +58,7 @@ pub fn print_run<R: Print + AllocGlobal, A: Alphabet, K: Sink>(
     finish: bool,
 ) -> io::Result<()> {
     let heap = rt.alloc();
-    let mut log = log_for(heap, calls.len())?;
+    let mut log = log_for(heap, calls.len().min(SHOWN_CALLS))?;
     let mut buffer = vec![in heap; 0; STOCK_BYTES]?;
     let (opened, finished) = perform(
         pattern,

@@ -6,5 +6,5 @@ mod answers;
 mod tests;
 mod words;
 
-pub use answers::{log_for, print_answers, print_run};
+pub use answers::{SHOWN_CALLS, log_for, print_answers, print_run};
 pub use words::{Named, Step, calls_of, steps_of, without_finish};

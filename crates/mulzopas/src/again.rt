@@ -24,7 +24,10 @@ pub(crate) fn run<R: Files + Print + AllocGlobal>(rt: &R, words: &[String]) -> R
     let mut pair = bits_and_text(&pattern, manner);
     let answer = replay(&pattern, &Bytes, &filed, &symbols, &mut pair);
     poured.pour(&mut pair)?;
-    let done = told(rt, answer);
+    let done = match told(rt, answer) {
+        Err(Failure::Other(error)) => return Err(Failure::Other(error)),
+        done => done,
+    };
     if let Ok(items) = &done {
         let (symbols, bytes) = (symbols.len(), poured.text.len());
         println!(rt; "replayed {items} items, {symbols} symbols: {bytes} bytes of rows")?;

@@ -1,7 +1,7 @@
 // The commands of the program.
 use crate::{again, reading};
 use anyhow::anyhow;
-use console::{Failure, hand_items, pattern_of, show_files, told};
+use console::{Commands, Failure, Patterns, hand_items, pattern_of, show_files, told};
 use pattern::Pattern;
 use std::fs;
 use std::rt::Files;
@@ -20,19 +20,36 @@ pub(crate) fn load<R: Files + Print + AllocGlobal>(rt: &R, name: &str) -> Result
     told(rt, pattern_of(&fs::read(rt, name)?))
 }
 
-// Performs one command, given by its words.
-pub(crate) fn perform<R: Files + Input + Print + Eprint + AllocGlobal>(
-    rt: &R,
-    words: &[String],
-) -> Result<(), Failure> {
-    let [name, rest @ ..] = words else {
-        return wrong_words(rt);
-    };
-    match name.as_str() {
-        "show" => show_files(rt, rest),
-        "items" => hand_items(rt, "mulzopas", rest, |name| load(rt, name)),
-        "replay" => again::run(rt, rest),
-        "read" => reading::run(rt, rest),
-        _ => wrong_words(rt),
+// The pattern files of the program.
+#[derive(Drop)]
+struct PatternFiles<'r, R> {
+    rt: &'r R,
+}
+
+impl<R: Files + Print + AllocGlobal> Patterns for PatternFiles<'_, R> {
+    fn load(&self, name: &str) -> Result<Pattern, Failure> {
+        load(self.rt, name)
+    }
+}
+
+// The program, by its commands.
+#[derive(Drop)]
+pub(crate) struct Program<'r, R> {
+    pub(crate) rt: &'r R,
+}
+
+impl<R: Files + Input + Print + Eprint + AllocGlobal> Commands for Program<'_, R> {
+    fn perform(&self, words: &[String]) -> Result<(), Failure> {
+        let rt = self.rt;
+        let [name, rest @ ..] = words else {
+            return wrong_words(rt);
+        };
+        match name.as_str() {
+            "show" => show_files(rt, rest),
+            "items" => hand_items(rt, "mulzopas", rest, &PatternFiles { rt }),
+            "replay" => again::run(rt, rest),
+            "read" => reading::run(rt, rest),
+            _ => wrong_words(rt),
+        }
     }
 }

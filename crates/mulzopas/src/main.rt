@@ -16,5 +16,5 @@ mod delivering;
 mod reading;
 
 fn main(rt: HostRuntime) -> anyhow::Result<()> {
-    console::run(&rt, |words| command::perform(&rt, words))
+    console::run(&rt, &command::Program { rt: &rt })
 }

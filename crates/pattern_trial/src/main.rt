@@ -7,7 +7,7 @@
 
 use console::pattern_of;
 use std::alloc::{AllocError, Global};
-use tables::{compare_cases, fault_words};
+use tables::{Outcomes, compare_cases, fault_words};
 
 // The bytes that a line describes.
 fn bytes_of(heap: Global, text: &str) -> anyhow::Result<Vec<u8>> {
@@ -19,14 +19,27 @@ fn bytes_of(heap: Global, text: &str) -> anyhow::Result<Vec<u8>> {
             times = count.parse::<usize>()?;
             from = bytes.len();
         } else if word == ")" {
-            let group = bytes.get(from..).unwrap_or(&[]);
-            let more = group.repeat(heap, times.saturating_sub(1))?;
-            bytes.extend_from_slice(&more)?;
+            repeat(&mut bytes, from, times)?;
         } else {
             bytes.push(u8::from_str_radix(word, 16)?)?;
         }
     }
     Ok(bytes)
+}
+
+// What stands from `from` on, `times` times in all, with no copy of it beside.
+fn repeat(bytes: &mut Vec<u8>, from: usize, times: usize) -> Result<(), AllocError> {
+    let more = bytes
+        .len()
+        .saturating_sub(from)
+        .saturating_mul(times.saturating_sub(1));
+    bytes.reserve(more)?;
+    for i in from..from.saturating_add(more) {
+        if let Some(byte) = bytes.get(i).copied() {
+            bytes.push(byte)?;
+        }
+    }
+    Ok(())
 }
 
 // The outcome of loading a file, as the table writes it.
@@ -40,11 +53,23 @@ fn outcome(heap: Global, file: &[u8]) -> Result<String, AllocError> {
     }
 }
 
+// The trial of files.
+#[derive(Drop)]
+struct Files {
+    heap: Global,
+}
+
+impl Outcomes for Files {
+    // An empty line is one too.
+    fn is_remark(&self, line: &str) -> bool {
+        line.starts_with("#") || line.is_empty()
+    }
+
+    fn outcome(&mut self, words: &str) -> anyhow::Result<String> {
+        Ok(outcome(self.heap, &bytes_of(self.heap, words)?)?)
+    }
+}
+
 fn main(rt: HostRuntime) -> anyhow::Result<()> {
-    let heap = rt.alloc();
-    compare_cases(
-        &rt,
-        "files",
-        |text| Ok(outcome(heap, &bytes_of(heap, text)?)?),
-    )
+    compare_cases(&rt, "files", &mut Files { heap: rt.alloc() })
 }

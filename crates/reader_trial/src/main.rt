@@ -10,7 +10,7 @@ use pattern::Pattern;
 use reader::{Buffer, Reader, Stop};
 use std::alloc::Global;
 use std::io;
-use tables::{hex_bytes, word_bytes};
+use tables::{hex_bytes, push_word};
 
 // The items that came off, if any.
 fn show(rt: &impl Print, after: usize, out: &Buffer) -> io::Result<()> {
@@ -28,7 +28,7 @@ fn show(rt: &impl Print, after: usize, out: &Buffer) -> io::Result<()> {
 fn input_of(heap: Global, words: &str) -> anyhow::Result<Vec<u8>> {
     let mut bytes = Vec::new(heap);
     for word in words.split_whitespace() {
-        bytes.extend_from_slice(&word_bytes(heap, word)?)?;
+        push_word(&mut bytes, word)?;
     }
     Ok(bytes)
 }

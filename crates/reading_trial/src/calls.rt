@@ -2,7 +2,7 @@
 use alphabet::Alphabet;
 use console::{BITS, Digits, TEXT, bits_and_text, pour_behind};
 use filing::{Filed, file};
-use listing::{Named, calls_of, log_for, print_answers, print_run, steps_of};
+use listing::{Named, SHOWN_CALLS, calls_of, log_for, print_answers, print_run, steps_of};
 use pattern::Pattern;
 use run::Call;
 use sink::{STOCK_BYTES, Sink};
@@ -35,7 +35,7 @@ fn print_filed<R: Print + AllocGlobal, A: Alphabet>(
     calls: &[Call<'_, A::Symbol>],
 ) -> anyhow::Result<()> {
     let heap = rt.alloc();
-    let mut log = log_for(heap, calls.len())?;
+    let mut log = log_for(heap, calls.len().min(SHOWN_CALLS))?;
     let mut buffer = vec![in heap; 0; STOCK_BYTES]?;
     let Filed {
         mut sinks,

@@ -1,7 +1,7 @@
 // One input cut at every point.
 use crate::marks::Marks;
 use alphabet::Bytes;
-use listing::log_for;
+use listing::{SHOWN_CALLS, log_for};
 use pattern::Pattern;
 use run::{Answer, Call, perform};
 use sink::STOCK_BYTES;
@@ -26,7 +26,7 @@ fn items_of(answer: &Answer) -> u64 {
 // Feeds the pieces and finishes.
 fn read(heap: Global, pattern: &Pattern, pieces: &[Call<'_, u8>]) -> Result<Sum, AllocError> {
     let mut sink = Marks::new(u32::MAX, STOCK_BYTES);
-    let mut log = log_for(heap, pieces.len())?;
+    let mut log = log_for(heap, pieces.len().min(SHOWN_CALLS))?;
     let (opened, finished) = perform(pattern, &Bytes, &mut sink, pieces, &mut log, &mut [], true);
     let fed = log
         .iter()

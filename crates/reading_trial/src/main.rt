@@ -20,7 +20,7 @@ use anyhow::{Context, anyhow};
 use console::pattern_of;
 use listing::without_finish;
 use sink::STOCK_BYTES;
-use tables::{hex_bytes, perform_cases};
+use tables::{Performs, hex_bytes, perform_cases};
 use text::Manner;
 
 mod calls;
@@ -47,6 +47,18 @@ fn perform_line<R: Print + AllocGlobal>(rt: &R, text: &str) -> anyhow::Result<()
     }
 }
 
+// The trial of readings.
+#[derive(Drop)]
+struct Readings<'r, R> {
+    rt: &'r R,
+}
+
+impl<R: Print + AllocGlobal> Performs for Readings<'_, R> {
+    fn perform(&mut self, line: &str) -> anyhow::Result<()> {
+        perform_line(self.rt, line)
+    }
+}
+
 fn main(rt: HostRuntime) -> anyhow::Result<()> {
-    perform_cases(&rt, |line| perform_line(&rt, line))
+    perform_cases(&rt, &mut Readings { rt: &rt })
 }

@@ -1,7 +1,8 @@
 // The commands of the program.
 use crate::list;
 use crate::words::load;
-use console::{Failure, hand_items, show_files};
+use console::{Commands, Failure, Patterns, hand_items, show_files};
+use pattern::Pattern;
 use std::rt::Files;
 
 const USAGE: &str = "usage:
@@ -20,18 +21,35 @@ fn usage(rt: &impl Eprint) -> Result<(), Failure> {
     Err(Failure::Refused)
 }
 
-// Performs one command, given by its words.
-pub(crate) fn perform<R: Files + Input + Print + Eprint + AllocGlobal>(
-    rt: &R,
-    words: &[String],
-) -> Result<(), Failure> {
-    let [name, rest @ ..] = words else {
-        return usage(rt);
-    };
-    match name.as_str() {
-        "show" => show_files(rt, rest),
-        "items" => hand_items(rt, "relay_lists", rest, |name| load(rt, name)),
-        name @ ("read" | "replay" | "check" | "explain") => list::run(rt, name, rest),
-        _ => usage(rt),
+// The pattern files of the program.
+#[derive(Drop)]
+struct PatternFiles<'r, R> {
+    rt: &'r R,
+}
+
+impl<R: Files + Print + AllocGlobal> Patterns for PatternFiles<'_, R> {
+    fn load(&self, name: &str) -> Result<Pattern, Failure> {
+        load(self.rt, name)
+    }
+}
+
+// The program, by its commands.
+#[derive(Drop)]
+pub(crate) struct Program<'r, R> {
+    pub(crate) rt: &'r R,
+}
+
+impl<R: Files + Input + Print + Eprint + AllocGlobal> Commands for Program<'_, R> {
+    fn perform(&self, words: &[String]) -> Result<(), Failure> {
+        let rt = self.rt;
+        let [name, rest @ ..] = words else {
+            return usage(rt);
+        };
+        match name.as_str() {
+            "show" => show_files(rt, rest),
+            "items" => hand_items(rt, "relay_lists", rest, &PatternFiles { rt }),
+            name @ ("read" | "replay" | "check" | "explain") => list::run(rt, name, rest),
+            _ => usage(rt),
+        }
     }
 }

@@ -29,5 +29,5 @@ mod symbols;
 mod words;
 
 fn main(rt: HostRuntime) -> anyhow::Result<()> {
-    console::run(&rt, |words| command::perform(&rt, words))
+    console::run(&rt, &command::Program { rt: &rt })
 }

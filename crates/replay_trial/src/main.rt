@@ -11,7 +11,7 @@ use console::{bits_and_text, pattern_of};
 use few::Few;
 use replay::replay;
 use std::alloc::Global;
-use tables::{compare_cases, fault_words, hex_bytes};
+use tables::{Outcomes, compare_cases, fault_words, hex_bytes};
 use text::Manner;
 
 mod few;
@@ -48,7 +48,18 @@ fn outcome(heap: Global, text: &str) -> anyhow::Result<String> {
     })
 }
 
+// The trial of replays.
+#[derive(Drop)]
+struct Replays {
+    heap: Global,
+}
+
+impl Outcomes for Replays {
+    fn outcome(&mut self, words: &str) -> anyhow::Result<String> {
+        outcome(self.heap, words)
+    }
+}
+
 fn main(rt: HostRuntime) -> anyhow::Result<()> {
-    let heap = rt.alloc();
-    compare_cases(&rt, "replays", |text| outcome(heap, text))
+    compare_cases(&rt, "replays", &mut Replays { heap: rt.alloc() })
 }

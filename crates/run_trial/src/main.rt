@@ -7,9 +7,18 @@
 use alphabet::Bytes;
 use anyhow::Context;
 use console::{bits_and_text, pattern_of};
-use listing::{calls_of, print_run, steps_of, without_finish};
-use tables::{hex_bytes, perform_cases};
+use listing::print_run;
+use run::Call;
+use tables::{Performs, hex_bytes, perform_cases, word_bytes};
 use text::Manner;
+
+// The call of a word; `piece` are the bytes to feed.
+fn call_of<'p>(word: &str, piece: &'p Vec<u8>) -> anyhow::Result<Call<'p, u8>> {
+    match word.strip_prefix(">") {
+        Some(channel) => Ok(Call::Pour(channel.parse::<u32>()?)),
+        None => Ok(Call::Feed(piece.as_slice())),
+    }
+}
 
 // One line.
 fn perform_line<R: Print + AllocGlobal>(rt: &R, line: &str) -> anyhow::Result<()> {
@@ -19,13 +28,33 @@ fn perform_line<R: Print + AllocGlobal>(rt: &R, line: &str) -> anyhow::Result<()
         Ok(pattern) => pattern,
         Err(fault) => return Ok(println!(rt; "  {fault}")?),
     };
-    let (words, finish) = without_finish(words);
-    let steps = steps_of::<u8>(heap, words)?;
-    let calls = calls_of(heap, &steps)?;
+    let pieces: Vec<Vec<u8>> = words
+        .split_whitespace()
+        .filter(|word| *word != ".")
+        .map(|word| word_bytes(heap, word))
+        .try_collect(heap)?;
+    let calls: Vec<Call<'_, u8>> = words
+        .split_whitespace()
+        .zip(pieces.iter())
+        .map(|(word, piece)| call_of(word, piece))
+        .try_collect(heap)?;
+    let finish = words.split_whitespace().any(|word| word == ".");
     let mut pair = bits_and_text(&pattern, Manner::Plain);
     Ok(print_run(rt, &pattern, &Bytes, &mut pair, &calls, finish)?)
 }
 
+// The trial of runs.
+#[derive(Drop)]
+struct Runs<'r, R> {
+    rt: &'r R,
+}
+
+impl<R: Print + AllocGlobal> Performs for Runs<'_, R> {
+    fn perform(&mut self, line: &str) -> anyhow::Result<()> {
+        perform_line(self.rt, line)
+    }
+}
+
 fn main(rt: HostRuntime) -> anyhow::Result<()> {
-    perform_cases(&rt, |line| perform_line(&rt, line))
+    perform_cases(&rt, &mut Runs { rt: &rt })
 }

@@ -6,5 +6,5 @@ mod cases;
 mod tests;
 mod words;
 
-pub use cases::{compare_cases, fault_words, perform_cases};
-pub use words::{hex_bytes, word_bytes};
+pub use cases::{Outcomes, Performs, compare_cases, fault_words, perform_cases};
+pub use words::{hex_bytes, push_word, word_bytes};

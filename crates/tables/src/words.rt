@@ -1,23 +1,48 @@
 // What the words of a case stand for.
-ghost use Rattle.std.specs.Prelude.{◌≡◌, length, ◌==◌, IfOk};
+ghost use Rattle.std.specs.Prelude.{◌≡◌, ◌++◌, length, ◌==◌, IfOk, OnOk};
 ghost use Rattle.std.specs.List.{position_or_len};
 
-use std::alloc::Global;
+use std::alloc::{AllocError, Global};
 
 // The bytes of pairs of hexadecimal digits, parted by space.
 pub fn hex_bytes(heap: Global, digits: &str) -> anyhow::Result<Vec<u8>> {
-    digits
-        .split_whitespace()
-        .map(|word| u8::from_str_radix(word, 16).map_err(anyhow::Error::from))
-        .try_collect(heap)
+    let mut bytes = Vec::new(heap);
+    // In a loop: a chain of results moves each, with room for an error, three times.
+    for word in digits.split_whitespace() {
+        bytes.push(u8::from_str_radix(word, 16)?)?;
+    }
+    Ok(bytes)
+}
+
+// Adds the bytes of WORD, or of N*WORD those so many times, with no copy of them beside.
+pub fn push_word(bytes: &mut Vec<u8>, word: &str) -> anyhow::Result<()>
+    ensures once { position_or_len (λ b. b == 42) word.now ≡ length word.now → OnOk result (bytes.new.items ≡ bytes.old.items ++ word.now) }
+{
+    match word.split_once('*') {
+        Some((times, text)) => Ok(push_times(bytes, text.as_bytes(), times.parse::<usize>()?)?),
+        None => Ok(bytes.extend_from_slice(word.as_bytes())?),
+    }
+}
+
+// Adds the bytes so many times. No bytes are added at once, however often.
+fn push_times(bytes: &mut Vec<u8>, more: &[u8], times: usize) -> Result<(), AllocError> {
+    bytes.reserve(more.len().saturating_mul(times))?;
+    if more.is_empty() {
+        return Ok(());
+    }
+    for _ in 0..times {
+        for byte in more {
+            bytes.push(*byte)?;
+        }
+    }
+    Ok(())
 }
 
 // WORD or N*WORD: the bytes of the word, or those so many times.
 pub fn word_bytes(heap: Global, word: &str) -> anyhow::Result<Vec<u8>>
     ensures once { position_or_len (λ b. b == 42) word.now ≡ length word.now → IfOk result (λ bytes. bytes.items ≡ word.now) }
 {
-    match word.split_once('*') {
-        Some((times, text)) => Ok(text.as_bytes().repeat(heap, times.parse::<usize>()?)?),
-        None => Ok(word.as_bytes().to_vec(heap)?),
-    }
+    let mut bytes = Vec::new(heap);
+    push_word(&mut bytes, word)?;
+    Ok(bytes)
 }

@@ -1,8 +1,12 @@
 use indexmap::IndexMap;
 use std::alloc::{AllocError, Global};
-use std::collections::BTreeSet;
 use tree::limits::FIRST_SLOT;
 use tree::refusal::Refusal;
+
+// How many items two paths share at their beginnings.
+fn shared_len(one: &[u32], other: &[u32]) -> usize {
+    one.iter().zip(other).take_while(|(a, b)| a == b).count()
+}
 
 // What a tree should hold: the path of each held slot. The order of the slots decides which are drawn.
 #[derive(Drop)]
@@ -37,10 +41,12 @@ impl Model {
         let Some(path) = self.paths.get(&under) else {
             return Ok(Err(Refusal::NotHeld));
         };
-        let mut next = BTreeSet::new(self.heap);
+        let mut next = Vec::new(self.heap);
         for other in self.paths.values() {
             if let Some([first, ..]) = other.strip_prefix(path) {
-                next.insert(*first)?;
+                if !next.contains(first) {
+                    next.push(*first)?;
+                }
             }
         }
         if next.len() >= 2 {
@@ -84,14 +90,15 @@ impl Model {
         }
     }
 
-    // How many different non-empty beginnings the paths have.
-    pub(crate) fn count(&self) -> Result<usize, AllocError> {
-        let mut beginnings = BTreeSet::new(self.heap);
-        for path in self.paths.values() {
-            for n in 1..=path.len() {
-                beginnings.insert(&path[..n])?;
-            }
+    // How many different non-empty beginnings the paths have: of each path those that no earlier path begins with.
+    pub(crate) fn count(&self) -> usize {
+        let mut count: usize = 0;
+        for (place, path) in self.paths.values().enumerate() {
+            let earlier = self.paths.values().take(place);
+            let shared = earlier.map(|other| shared_len(other, path)).max();
+            let own = path.len().saturating_sub(shared.unwrap_or(0));
+            count = count.saturating_add(own);
         }
-        Ok(beginnings.len())
+        count
     }
 }
