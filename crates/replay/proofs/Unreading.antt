@@ -1,7 +1,7 @@
 -- The bits of filed bytes, one at a time.
-use Rattle.std.proofs.Common.{◌≡◌, ℕ, zero, suc, ◌-◌, ◌*◌, ◌%◌, ◌<◌, ◌≤◌, Bool, true, false, ltb, ◌↔◌, List, [], ◌∷◌, ◌++◌, length, replicate, sym, refl, ap, subst, arith}
+use Rattle.std.proofs.Common.{◌≡◌, ℕ, zero, suc, ◌+◌, ◌-◌, ◌*◌, ◌%◌, ◌<◌, ◌≤◌, Bool, true, false, ltb, ◌↔◌, List, [], ◌∷◌, ◌++◌, length, get_or, drop, replicate, sym, refl, ap, subst, arith}
 use Rattle.std.specs.List.{All}
-use Rattle.std.proofs.lemmas.List.{length-replicate}
+use Rattle.std.proofs.lemmas.List.{length-replicate, drop_more, drop_all}
 use Rattle.std.proofs.lemmas.List.Elements.{All-head, All-tail, All-replicate}
 use Rattle.walk.proofs.Order.{never_both}
 use Rattle.replay.specs.Bits.{highest, bits_of, Filling}
@@ -42,12 +42,11 @@ filling_is bs = (
 )
 
 -- the next byte is at hand
-pub next_byte : (left v b : ℕ) (bytes others : List ℕ) → left ≡ 0 → bytes ≡ b ∷ others → highest left v ++ bits_of bytes ≡ highest 8 b ++ bits_of others
+pub next_byte : (left v next b : ℕ) (bytes : List ℕ) → left ≡ 0 → next < length bytes → b ≡ get_or bytes next b → highest left v ++ bits_of (drop next bytes) ≡ highest 8 b ++ bits_of (drop (next + 1) bytes)
 unfolding highest bits_of
-next_byte left v b bytes others e h = rw (e, h) refl
+next_byte left v next b bytes e h f = rw (e, drop_more bytes next b h, sym f) refl
 
 -- no byte is left
-pub none_left : (left v : ℕ) (bytes : List ℕ) → left ≡ 0 → length bytes ≡ 0 → highest left v ++ bits_of bytes ≡ []
+pub none_left : (left v next : ℕ) (bytes : List ℕ) → left ≡ 0 → length bytes ≤ next → highest left v ++ bits_of (drop next bytes) ≡ []
 unfolding highest bits_of
-none_left left v [] e h = rw e refl
-none_left left v (b ∷ bytes) e h = absurd (omega arith)
+none_left left v next bytes e h = rw (e, drop_all next bytes h) refl

@@ -20,7 +20,7 @@ use Rattle.replay.specs.declared.played.Played.TheVariants as played
 use Rattle.replay.specs.Bits.{bits_of, Filling}
 use Rattle.replay.specs.Tracing.{Verdict, complete, broken, Traces}
 use Rattle.replay.specs.Outcome.{placed}
-use Rattle.replay.specs.Unread.{unread}
+use Rattle.replay.specs.Unread.{unread, bytes_in}
 use Rattle.replay.specs.Stepping.{met_of}
 
 -- where a playback stands: the bits and the symbols still to come, the points met since the last read, the point at hand,
@@ -193,10 +193,10 @@ module _ {Symbol : Type 0} (L : Letters Symbol) (at : ℕ → Step) where
     Plays t q s (Err f) t' q' s' = Halts t q s f t' q' s'
 
 -- A playback was opened on the pattern P, the bytes, the symbols w and an alphabet a: it holds them, all classes are known, and it stands where a replay begins.
-pub record Opens {Symbol Kind : Type 0} (L : Letters Symbol) (P : Pattern) (bytes : List ℕ) (w : List Symbol) (a : Kind) (P' : Pattern) (h : Cursor) (bytes' : List ℕ) (w' : List Symbol) (a' : Kind) : Type 0 where
+pub record Opens {Symbol Kind : Type 0} (L : Letters Symbol) (P : Pattern) (bytes : List ℕ) (w : List Symbol) (a : Kind) (P' : Pattern) (h : Cursor) (w' : List Symbol) (a' : Kind) : Type 0 where
   pub known : ClassesBelow L.classes (graph_of P)
   pub stands : stand P' h w' ≡ opened P bytes w
-  pub bytes_are : bytes' ≡ bytes
+  pub bytes_are : bytes_in h.bits ≡ bytes
   pub pattern_is : P' ≡ P
   pub symbols_are : w' ≡ w
   pub alphabet_is : a' ≡ a

@@ -1,6 +1,6 @@
 // The bits of filed bytes, the highest bit of a byte first.
-ghost use Rattle.std.specs.Prelude.{◌≡◌, ◌≤◌, true, false, ◌↔◌, length};
-ghost use Rattle.std.specs.Iterator.{YieldsFirst, item_count};
+ghost use Rattle.std.specs.Prelude.{⊤, ◌≡◌, ◌≤◌, true, false, ◌↔◌, length};
+ghost use Rattle.std.specs.Iterator.{YieldsFirst, item_count, MakesProgress};
 ghost use Rattle.std.specs.List.{All};
 ghost use Rattle.replay.specs.Bits.{bits_of, most_filling};
 
@@ -10,22 +10,24 @@ const MOST_FILLING: usize = 7;
 // Reads filed bytes bit by bit.
 #[derive(Clone, Copy)]
 pub(crate) struct FiledBits<'f> {
-    // The bytes behind the one at hand.
     bytes: &'f [u8],
-    // What is left of the byte at hand, moved up, and how many bits that are.
+    next: usize,
+    // What is left of the byte before `next`, moved up, and how many bits that are.
     current: u8,
     left: u8,
 }
 
 impl<'f> FiledBits<'f> {
-    ghost use Rattle.replay.specs.Unread.{unread};
+    ghost use Rattle.replay.specs.Unread.{unread, bytes_in};
 
     #[tactic(auto, unfolding(crate::specs::Bits::highest))]
     pub(crate) fn new(bytes: &'f [u8]) -> FiledBits<'f>
-        ensures { unread result ≡ bits_of bytes.now }
+        ensures bits { unread result ≡ bits_of bytes.now }
+        ensures bytes { bytes_in result ≡ bytes.now }
     {
         FiledBits {
             bytes,
+            next: 0,
             current: 0,
             left: 0,
         }
@@ -40,7 +42,7 @@ impl<'f> FiledBits<'f> {
 }
 
 impl<'f> Iterator for FiledBits<'f> {
-    ghost use Rattle.replay.specs.Unread.{unread};
+    ghost use Rattle.replay.specs.Unread.{unread, bytes_in};
 
     type Item = bool;
 
@@ -48,11 +50,14 @@ impl<'f> Iterator for FiledBits<'f> {
 
     ghost remaining = { item_count unread };
 
-    fn next(&mut self) -> Option<bool> {
+    fn next(&mut self) -> Option<bool>
+        ensures steps { YieldsFirst unread self.old result self.new }
+        ensures goes { MakesProgress (λ _. ⊤) (item_count unread) self.old result self.new }
+        ensures bytes { bytes_in self.new ≡ bytes_in self.old }
+    {
         if self.left == 0 {
-            let (first, others) = self.bytes.split_first()?;
-            self.bytes = others;
-            self.current = *first;
+            self.current = *self.bytes.get(self.next)?;
+            self.next += 1;
             self.left = 8;
         }
         let bit = self.current > 127;

@@ -7,7 +7,7 @@ ghost use Rattle.pattern.specs.Patterns.{points_of};
 ghost use Rattle.point_set.specs.Members.{members, point_count};
 ghost use Rattle.walk.specs.Graphs.{graph_of};
 ghost use Rattle.replay.specs.Bits.{bits_of, Filling};
-ghost use Rattle.replay.specs.Unread.{unread};
+ghost use Rattle.replay.specs.Unread.{unread, bytes_in};
 ghost use Rattle.replay.specs.Outcome.{placed};
 ghost use Rattle.replay.specs.Stepping.{next_item, Hands};
 
@@ -80,6 +80,7 @@ impl<'f> Cursor<'f> {
     // A cursor that has read nothing, at this point.
     pub(crate) fn new(filed: &'f [u8], point: u8) -> Cursor<'f>
         ensures bits { unread result.bits ≡ bits_of filed.now }
+        ensures bytes { bytes_in result.bits ≡ filed.now }
         ensures met { members result.met ≡ replicate point_count false }
         ensures at { result.at ≡ Some point }
         ensures read { result.read ≡ 0 }
@@ -111,6 +112,7 @@ impl<'f> Cursor<'f> {
         requires here { here ≤ length (points_of grammar.now.pattern.now) }
         ensures steps { Steps (L.Alphabet.meaning grammar.now.alphabet.now) (graph_of grammar.now.pattern.now) S.Sink.meaning (stand grammar.now.pattern.now self.old symbols.now) (S.Sink.position sink.old) (S.Sink.stock sink.old) result (stand grammar.now.pattern.now self.new symbols.now) (S.Sink.position sink.new) (S.Sink.stock sink.new) }
         ensures here { unwrap_or self.new.at 0 ≤ length (points_of grammar.now.pattern.now) }
+        ensures bytes { bytes_in self.new.bits ≡ bytes_in self.old.bits }
     {
         let read = self.read;
         if self.met.contains(here) {
@@ -165,6 +167,7 @@ impl<'f> Cursor<'f> {
         requires here { unwrap_or self.old.at 0 ≤ length (points_of grammar.now.pattern.now) }
         ensures plays { Plays (L.Alphabet.meaning grammar.now.alphabet.now) (graph_of grammar.now.pattern.now) S.Sink.meaning (stand grammar.now.pattern.now self.old symbols.now) (S.Sink.position sink.old) (S.Sink.stock sink.old) result (stand grammar.now.pattern.now self.new symbols.now) (S.Sink.position sink.new) (S.Sink.stock sink.new) }
         ensures here { unwrap_or self.new.at 0 ≤ length (points_of grammar.now.pattern.now) }
+        ensures bytes { bytes_in self.new.bits ≡ bytes_in self.old.bits }
     {
         while let Some(here) = self.at {
             if let Some(played) = self.step(here, grammar, symbols, sink)? {

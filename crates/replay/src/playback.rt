@@ -3,6 +3,7 @@ ghost use Rattle.std.specs.Prelude.{◌≡◌, ◌≤◌, length, MatchResult};
 ghost use Rattle.std.specs.Option.{unwrap_or};
 ghost use Rattle.pattern.specs.Patterns.{points_of};
 ghost use Rattle.walk.specs.Graphs.{graph_of};
+ghost use Rattle.replay.specs.Unread.{bytes_in};
 ghost use Rattle.replay.specs.Playing.{stand, ahead, Falls, LeftSome, Plays, Opens, Bars};
 
 use crate::cursor::Cursor;
@@ -17,7 +18,6 @@ use walk::Grammar;
 #[derive(Drop)]
 pub struct Playback<'f, A: Alphabet> {
     grammar: Grammar<'f, A>,
-    filed: &'f [u8],
     symbols: &'f [A::Symbol],
     cursor: Cursor<'f>,
     // It stands at a point of the pattern or at its end.
@@ -32,7 +32,7 @@ impl<'f, A: Alphabet> Playback<'f, A> {
         filed: &'f [u8],
         symbols: &'f [A::Symbol],
     ) -> Result<Playback<'f, A>, Fault>
-        ensures { MatchResult result (λ b. Opens (A.Alphabet.meaning alphabet.now) pattern.now filed.now symbols.now alphabet.now b.grammar.pattern.now b.cursor b.filed.now b.symbols.now b.grammar.alphabet.now) (λ f. Bars (A.Alphabet.meaning alphabet.now) pattern.now f) }
+        ensures { MatchResult result (λ b. Opens (A.Alphabet.meaning alphabet.now) pattern.now filed.now symbols.now alphabet.now b.grammar.pattern.now b.cursor b.symbols.now b.grammar.alphabet.now) (λ f. Bars (A.Alphabet.meaning alphabet.now) pattern.now f) }
     {
         let grammar = Grammar { pattern, alphabet };
         if !grammar.reads_below(alphabet.class_count()) {
@@ -40,7 +40,6 @@ impl<'f, A: Alphabet> Playback<'f, A> {
         }
         Ok(Playback {
             grammar,
-            filed,
             symbols,
             cursor: Cursor::new(filed, pattern.entry()),
         })
@@ -55,7 +54,7 @@ impl<'f, A: Alphabet> Playback<'f, A> {
         ensures falls { Falls result (ahead (stand self.old.grammar.pattern.now self.old.cursor self.old.symbols.now)) (ahead (stand self.new.grammar.pattern.now self.new.cursor self.new.symbols.now)) }
         ensures grammar { self.new.grammar ≡ self.old.grammar }
         ensures symbols { self.new.symbols.now ≡ self.old.symbols.now }
-        ensures bytes { self.new.filed.now ≡ self.old.filed.now }
+        ensures bytes { bytes_in self.new.cursor.bits ≡ bytes_in self.old.cursor.bits }
     {
         self.cursor.play_on(&self.grammar, self.symbols, sink)
     }

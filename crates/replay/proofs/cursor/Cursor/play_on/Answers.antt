@@ -1,4 +1,4 @@
-use Rattle.std.proofs.Common.{Err, ap, ◌∙◌}
+use Rattle.std.proofs.Common.{Err, refl, ap, ◌∙◌}
 use Rattle.std.proofs.lemmas.Result.{err_from_is_err_and}
 use Rattle.walk.specs.Graphs.{graph_of}
 use Rattle.replay.specs.Playing.{Stand, stand}
@@ -6,7 +6,7 @@ use Rattle.replay.proofs.Playing.{stands_at, sought_first, sought_on, sought_han
 use Rattle.replay.proofs.cursor.Cursor.play_on.Goals as goal
 
 pub loop-self-init : goal.loop-self-init
-loop-self-init g c = (sought_first (g.L.Alphabet.meaning c.args.grammar.now.alphabet.now) (graph_of c.args.grammar.now.pattern.now) g.S.Sink.meaning _ _ _, c.requires.here)
+loop-self-init g c = (sought_first (g.L.Alphabet.meaning c.args.grammar.now.alphabet.now) (graph_of c.args.grammar.now.pattern.now) g.S.Sink.meaning _ _ _, c.requires.here, refl)
 
 pub returns-in_err-played-clause-plays : goal.returns-in_err-played-clause-plays
 returns-in_err-played-clause-plays g c =
@@ -44,4 +44,11 @@ loop-self-preserved g c =
       sought_on L (graph_of P) m t u t' _ _ _ _ _ _ c.loop-self.invariant.0 (ap (λ (x : Stand _). x.ended) (stands_at P c.loop-self.self w c.in-Some.here c.in-Some.is))
           (steps_skips L (graph_of P) m u t' _ _ _ _ c.in_ok-played.field-0 c.in_default-2.is c.in_ok-played.ensures.steps),
       c.in_ok-played.ensures.here,
+      c.in_ok-played.ensures.bytes ∙ c.loop-self.invariant.2,
     )
+
+pub returns-in_err-played-clause-bytes : goal.returns-in_err-played-clause-bytes
+returns-in_err-played-clause-bytes g c = c.in_err-played.ensures.bytes ∙ c.loop-self.invariant.2
+
+pub returns-in-Some-2-clause-bytes : goal.returns-in-Some-2-clause-bytes
+returns-in-Some-2-clause-bytes g c = c.in_ok-played.ensures.bytes ∙ c.loop-self.invariant.2

@@ -10,7 +10,7 @@ returns g c =
     record {
       known = rw (sym c.class_count.ensures) (c.reads_below.ensures.below c.if-not-reads_below.false);
       stands = stands_open c.args.pattern.now c.args.filed.now c.args.symbols.now h e.bits (cleared h.met e.met) (e.at ∙ ap Some c.entry.ensures.value) e.read;
-      bytes_are = refl;
+      bytes_are = e.bytes;
       pattern_is = refl;
       symbols_are = refl;
       alphabet_is = refl;
