@@ -158,6 +158,7 @@ impl<'f> Cursor<'f> {
     }
 
     // Works points up to the next item, and tells what that was; none once the end mark is handed over.
+    #[inline(always)]
     pub(crate) fn play_on<L: Alphabet, S: Sink>(
         &mut self,
         grammar: &Grammar<'_, L>,

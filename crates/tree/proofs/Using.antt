@@ -1,8 +1,16 @@
 -- For callers: when a call is granted, and what it then did.
-use Rattle.std.proofs.Common.{◌≡◌, ℕ, ◌<◌, ◌≢◌, List, ◌∷◌, ◌++◌, length, sym, ap, ◌∙◌, subst, arith, length-append}
+use Rattle.std.proofs.Common.{◌≡◌, ℕ, ◌<◌, ◌≢◌, List, ◌∷◌, ◌++◌, length, Ok, Result, sym, ap, ◌∙◌, subst, arith, length-append}
+use Rattle.tree.specs.declared.refusal.Refusal.{Refusal}
 use Rattle.tree.specs.declared.paths.PathTree.{PathTree}
-use Rattle.tree.specs.Held.{Held, Holder, room, Follows, Addable}
+use Rattle.tree.specs.Held.{Held, Holder, room, Follows, Addable, Added, Adds, Released, Releases}
 use Rattle.tree.proofs.Holding.{held_same}
+
+-- an answer that is Ok
+pub adds_ok : (t : PathTree) (p x : ℕ) (a : Result ℕ Refusal) (r : ℕ) (t' : PathTree) → Adds t p x a t' → a ≡ Ok r → Added t p x r t'
+adds_ok t p x a r t' A e = subst (λ (b : Result ℕ Refusal). Adds t p x b t') e A
+
+pub releases_ok : (t : PathTree) (i : ℕ) (a : Result (Unit {0}) Refusal) (u : Unit {0}) (t' : PathTree) → Releases t i a t' → a ≡ Ok u → Released t i t'
+releases_ok t i a u t' R e = subst (λ (b : Result (Unit {0}) Refusal). Releases t i b t') e R
 
 module _ (t : PathTree) (p : ℕ) (xs : List ℕ) (h : Held t p xs) where
   pub holder : Holder t p
