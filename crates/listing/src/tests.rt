@@ -1,6 +1,7 @@
 // What words stand for.
-use crate::{Step, steps_of, without_finish};
+use crate::{Step, calls_of, log_for, steps_of, without_finish};
 use alphabet::Token;
+use run::Call;
 
 #[test]
 fn words_are_steps(rt: HostRuntime) -> anyhow::Result<()> {
@@ -17,4 +18,14 @@ fn the_finish_stands_alone(rt: HostRuntime) {
     assert!(rt; without_finish(" a b . ").1);
     assert!(rt; !without_finish(" a b.").1);
     assert!(rt; without_finish(" .").1);
+}
+
+#[test]
+fn steps_are_called(rt: HostRuntime) -> anyhow::Result<()> {
+    let heap = rt.alloc();
+    let steps = steps_of::<u8>(heap, "ab >1")?;
+    let calls = calls_of(heap, &steps)?;
+    assert!(rt; matches!(calls.as_slice(), [Call::Feed(_), Call::Pour(1)]));
+    assert_eq!(rt; log_for(heap, 3)?.len(), 3);
+    Ok(())
 }

@@ -47,6 +47,8 @@ where
     A::Symbol: Drop,
 {
     // Replays the choices over the input, and writes the rows.
+    // Not inlined, so that it takes no stack beside a reading.
+    #[inline(never)]
     pub(crate) fn replay_into<W: Write + Drop>(
         &self,
         choices: &[u8],

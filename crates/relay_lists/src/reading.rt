@@ -88,6 +88,8 @@ where
     }
 
     // Opens a run, feeds the input, finishes, and pours what is left.
+    // Not inlined, so that a run takes stack only while it reads.
+    #[inline(never)]
     pub(crate) fn read_into<W: Write + Drop>(
         &self,
         outlets: &mut Outlets<W>,

@@ -101,6 +101,7 @@ impl<'f> Cursor<'f> {
     }
 
     // Works the point at hand; none where it is passed freely. The item is handed over before anything changes.
+    #[inline(always)]
     fn step<L: Alphabet, S: Sink>(
         &mut self,
         here: u8,

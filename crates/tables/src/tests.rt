@@ -1,5 +1,6 @@
 // What words stand for.
-use crate::{hex_bytes, word_bytes};
+use crate::{fault_words, hex_bytes, push_word, word_bytes};
+use fault::{Cause, Fault};
 
 #[test]
 fn digits_are_bytes(rt: HostRuntime) -> anyhow::Result<()> {
@@ -16,5 +17,22 @@ fn words_are_repeated(rt: HostRuntime) -> anyhow::Result<()> {
         assert_eq!(rt; bytes.as_slice(), want.as_bytes(), "{word}");
     }
     assert!(rt; word_bytes(rt.alloc(), "x*ab").is_err());
+    Ok(())
+}
+
+#[test]
+fn words_follow_one_another(rt: HostRuntime) -> anyhow::Result<()> {
+    let mut bytes = Vec::new(rt.alloc());
+    for word in ["2*ab", "c", "18446744073709551615*"] {
+        push_word(&mut bytes, word)?;
+    }
+    assert_eq!(rt; bytes.as_slice(), b"ababc".as_slice());
+    Ok(())
+}
+
+#[test]
+fn refusals_have_words(rt: HostRuntime) -> anyhow::Result<()> {
+    let words = fault_words(rt.alloc(), Fault::new(Cause::DeadSymbol, 7))?;
+    assert_eq!(rt; words.as_str(), "5 7");
     Ok(())
 }
