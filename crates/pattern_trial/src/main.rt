@@ -29,15 +29,18 @@ fn bytes_of(heap: Global, text: &str) -> anyhow::Result<Vec<u8>> {
 
 // What stands from `from` on, `times` times in all, with no copy of it beside.
 fn repeat(bytes: &mut Vec<u8>, from: usize, times: usize) -> Result<(), AllocError> {
-    let more = bytes
-        .len()
-        .saturating_sub(from)
-        .saturating_mul(times.saturating_sub(1));
+    let group = bytes.len().saturating_sub(from);
+    let mut more = group.saturating_mul(times.saturating_sub(1));
     bytes.reserve(more)?;
-    for i in from..from.saturating_add(more) {
-        if let Some(byte) = bytes.get(i).copied() {
-            bytes.push(byte)?;
+    // Each turn adds as much as stands there, so that there are no more turns than a count has bits.
+    for _ in 0..usize::BITS {
+        let len = bytes.len();
+        if more == 0 || from >= len {
+            break;
         }
+        let end = from + more.min(len - from);
+        bytes.extend_from_within(from..end)?;
+        more -= end - from;
     }
     Ok(())
 }
