@@ -31,7 +31,6 @@ fn bytes_of(heap: Global, text: &str) -> anyhow::Result<Vec<u8>> {
 fn repeat(bytes: &mut Vec<u8>, from: usize, times: usize) -> Result<(), AllocError> {
     let group = bytes.len().saturating_sub(from);
     let mut more = group.saturating_mul(times.saturating_sub(1));
-    bytes.reserve(more)?;
     // Each turn adds as much as stands there, so that there are no more turns than a count has bits.
     for _ in 0..usize::BITS {
         let len = bytes.len();

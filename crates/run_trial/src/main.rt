@@ -13,10 +13,10 @@ use tables::{Performs, hex_bytes, perform_cases, word_bytes};
 use text::Manner;
 
 // The call of a word; `piece` are the bytes to feed.
-fn call_of<'p>(word: &str, piece: &'p Vec<u8>) -> anyhow::Result<Call<'p, u8>> {
+fn call_of<'p>(word: &str, piece: &'p [u8]) -> anyhow::Result<Call<'p, u8>> {
     match word.strip_prefix(">") {
         Some(channel) => Ok(Call::Pour(channel.parse::<u32>()?)),
-        None => Ok(Call::Feed(piece.as_slice())),
+        None => Ok(Call::Feed(piece)),
     }
 }
 
@@ -36,7 +36,7 @@ fn perform_line<R: Print + AllocGlobal>(rt: &R, line: &str) -> anyhow::Result<()
     let calls: Vec<Call<'_, u8>> = words
         .split_whitespace()
         .zip(pieces.iter())
-        .map(|(word, piece)| call_of(word, piece))
+        .map(|(word, piece)| call_of(word, piece.as_slice()))
         .try_collect(heap)?;
     let finish = words.split_whitespace().any(|word| word == ".");
     let mut pair = bits_and_text(&pattern, Manner::Plain);

@@ -26,10 +26,13 @@ pub fn push_word(bytes: &mut Vec<u8>, word: &str) -> anyhow::Result<()>
 
 // Adds the bytes so many times. No bytes are added at once, however often.
 fn push_times(bytes: &mut Vec<u8>, more: &[u8], times: usize) -> Result<(), AllocError> {
-    bytes.reserve(more.len().saturating_mul(times))?;
     if more.is_empty() {
         return Ok(());
     }
+    // Room as a vector has that grew one by one: with no more than is needed, the next byte would double it.
+    let needed = bytes.len().saturating_add(more.len().saturating_mul(times));
+    let room = needed.checked_next_power_of_two().unwrap_or(usize::MAX);
+    bytes.reserve(room.saturating_sub(bytes.len()))?;
     for _ in 0..times {
         for byte in more {
             bytes.push(*byte)?;
