@@ -1,6 +1,7 @@
 // What words stand for.
 use crate::{Step, calls_of, log_for, steps_of, without_finish};
 use alphabet::Token;
+use anyhow::bail;
 use run::Call;
 
 #[test]
@@ -10,6 +11,12 @@ fn words_are_steps(rt: HostRuntime) -> anyhow::Result<()> {
     let steps = steps_of::<Token>(rt.alloc(), "15:-2048,0:7")?;
     assert!(rt; matches!(steps.as_slice(), [Step::Feed(_)]));
     assert!(rt; steps_of::<Token>(rt.alloc(), "16:0").is_err());
+    // A piece takes no more room than it needs.
+    let steps = steps_of::<u8>(rt.alloc(), "70*ab")?;
+    let [Step::Feed(piece)] = steps.as_slice() else {
+        bail!("a word is a piece");
+    };
+    assert_eq!(rt; piece.capacity(), 140);
     Ok(())
 }
 

@@ -12,11 +12,19 @@ fn digits_are_bytes(rt: HostRuntime) -> anyhow::Result<()> {
 
 #[test]
 fn words_are_repeated(rt: HostRuntime) -> anyhow::Result<()> {
-    for (word, want) in [("ab", "ab"), ("3*ab", "ababab"), ("0*ab", ""), ("", "")] {
+    for (word, want) in [
+        ("ab", "ab"),
+        ("3*ab", "ababab"),
+        ("0*ab", ""),
+        ("", ""),
+        ("18446744073709551615*", ""),
+    ] {
         let bytes = word_bytes(rt.alloc(), word)?;
         assert_eq!(rt; bytes.as_slice(), want.as_bytes(), "{word}");
     }
     assert!(rt; word_bytes(rt.alloc(), "x*ab").is_err());
+    // No more room is asked for than the bytes need.
+    assert_eq!(rt; word_bytes(rt.alloc(), "70*ab")?.capacity(), 140);
     Ok(())
 }
 

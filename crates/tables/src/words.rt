@@ -24,6 +24,16 @@ pub fn push_word(bytes: &mut Vec<u8>, word: &str) -> anyhow::Result<()>
     }
 }
 
+// Adds the bytes so many times.
+fn push_all(bytes: &mut Vec<u8>, more: &[u8], times: usize) -> Result<(), AllocError> {
+    for _ in 0..times {
+        for byte in more {
+            bytes.push(*byte)?;
+        }
+    }
+    Ok(())
+}
+
 // Adds the bytes so many times. No bytes are added at once, however often.
 fn push_times(bytes: &mut Vec<u8>, more: &[u8], times: usize) -> Result<(), AllocError> {
     if more.is_empty() {
@@ -33,19 +43,24 @@ fn push_times(bytes: &mut Vec<u8>, more: &[u8], times: usize) -> Result<(), Allo
     let needed = bytes.len().saturating_add(more.len().saturating_mul(times));
     let room = needed.checked_next_power_of_two().unwrap_or(usize::MAX);
     bytes.reserve(room.saturating_sub(bytes.len()))?;
-    for _ in 0..times {
-        for byte in more {
-            bytes.push(*byte)?;
-        }
-    }
-    Ok(())
+    push_all(bytes, more, times)
 }
 
-// WORD or N*WORD: the bytes of the word, or those so many times.
+// The bytes so many times, in no more room than they need.
+fn repeated(heap: Global, bytes: &[u8], times: usize) -> Result<Vec<u8>, AllocError> {
+    let mut all = Vec::with_capacity(heap, bytes.len().saturating_mul(times))?;
+    if !bytes.is_empty() {
+        push_all(&mut all, bytes, times)?;
+    }
+    Ok(all)
+}
+
+// WORD or N*WORD: the bytes of the word, or those so many times, in no more room than they need.
 pub fn word_bytes(heap: Global, word: &str) -> anyhow::Result<Vec<u8>>
     ensures once { position_or_len (λ b. b == 42) word.now ≡ length word.now → IfOk result (λ bytes. bytes.items ≡ word.now) }
 {
-    let mut bytes = Vec::new(heap);
-    push_word(&mut bytes, word)?;
-    Ok(bytes)
+    match word.split_once('*') {
+        Some((times, text)) => Ok(repeated(heap, text.as_bytes(), times.parse::<usize>()?)?),
+        None => Ok(word.as_bytes().to_vec(heap)?),
+    }
 }
